@@ -1,0 +1,7 @@
+pub mod ByteOrder
+pub mod Padded
+pub mod Parents
+pub mod Rows
+pub mod StoreKeys
+pub mod StorePrefixes
+pub mod Texts

@@ -1,2 +1,5 @@
-pub mod Text
+pub mod ByteOrder
+pub mod Rows
 pub mod StoreKeys
+pub mod StorePrefixes
+pub mod Text

@@ -1,9 +1,11 @@
 ghost use mathlib.Core.Path.{_≡_};
 ghost use Prim.Native.Nat.{_-_, _≤_};
-ghost use lib.ListN.{take, drop, replicate};
+ghost use lib.ListN.{length, take, drop, replicate};
 ghost use Rattle.keys.specs.Text.{KeyText};
 
 mod methods;
+pub mod orders;
+mod prefixes;
 
 /// The most bytes that a key has.
 pub const MAX_KEY_LEN: usize = 120;
@@ -16,6 +18,16 @@ pub struct StoreKey {
     bytes: [u8; 120],
     len: usize,
     ghost within: { len ≤ 120 },
+    ghost whole: { length bytes ≡ 120 },
     ghost padded: { drop len bytes ≡ replicate (120 - len) 0 },
     ghost rule: { KeyText (take len bytes) },
+}
+
+/// Why bytes are no key.
+#[derive(Clone, Copy, PartialEq, Eq, Debug)]
+pub enum StoreKeyError {
+    /// More than 120 bytes.
+    TooLong,
+    /// The rule of keys is broken.
+    Invalid,
 }

@@ -1,0 +1,3 @@
+pub mod Orders
+mod Shifts
+pub mod SortedLists

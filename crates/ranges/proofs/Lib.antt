@@ -1,0 +1,4 @@
+pub mod Questions
+pub mod RangeOrder
+pub mod ReadLists
+pub mod Writes

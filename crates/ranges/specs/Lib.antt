@@ -1,0 +1,6 @@
+pub mod Buffers
+pub mod Examples
+pub mod Orders
+pub mod Ranges
+pub mod ReadLists
+pub mod Refusals

@@ -1,0 +1,5 @@
+pub mod Contents
+pub mod Faults
+pub mod Readings
+pub mod Writes
+pub mod Stores

@@ -1,0 +1,4 @@
+//! What a store is: faults, the interface, and what is written once over it.
+
+pub mod fault;
+pub mod storage_sync;
