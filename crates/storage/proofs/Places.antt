@@ -8,9 +8,9 @@ use lib.ListN.{length}
 use Rattle.std.specs.declared.option.Option.{Option}
 use Rattle.std.specs.declared.option.Option.the-variants.{Some, None}
 use Rattle.keys.specs.Text.{Bytes}
-use Rattle.storage.specs.Contents.{Contents, Entry, same, earlier, found, put, without, keysOf, total, allAfter, allBefore, Gap}
-use Rattle.storage.proofs.Order.{eq-same, ne-same, same-flip, earlier-apart, earlier-not-back}
-use Rattle.storage.proofs.Finds.{found-skip, found-here, without-drop, without-keep}
+use Rattle.storage.specs.Contents.{Contents, Entry, same, earlier, found, put, without, moved, keysOf, total, allAfter, allBefore, Gap}
+use Rattle.storage.proofs.Order.{same-true, eq-same, same-flip, earlier-apart, earlier-not-back}
+use Rattle.storage.proofs.Finds.{found-skip, found-here, found-put-same, moved-some, without-drop, without-keep}
 use Rattle.storage.proofs.Ascends.{after-parts, before-parts}
 
 abbrev pub entry : Bytes → Bytes → Entry
@@ -84,3 +84,33 @@ module _ (k : Bytes) where
       let b = before-parts (x .key) k (keysOf xs) (g .below) in
       without-keep (λ j. same j k) x (xs ++ e ∷ ys) (earlier-apart (x .key) k (b .0))
       ∙ ap (λ (c : Contents). x ∷ c) (without-at xs e ys (record { below = b .1; above = g .above }) p)
+
+-- what a removal takes need not be put
+pub without-put-off : (t : Bytes → Bool) (k : Bytes) (v : Bytes) (c : Contents) → t k ≡ true → without t (put k v c) ≡ without t c
+unfolding put
+without-put-off t k v [] n = without-drop t (entry k v) [] n
+without-put-off t k v (e ∷ es) n = go (without-put-off t k v es n) (same k (e .key)) (earlier k (e .key)) (t (e .key)) refl refl
+  where
+    go : without t (put k v es) ≡ without t es → (d f g : Bool) → same k (e .key) ≡ d → t (e .key) ≡ g → without t (elim d [ true ↦ entry k v ∷ es | false ↦ elim f [ true ↦ entry k v ∷ (e ∷ es) | false ↦ e ∷ put k v es ] ]) ≡ without t (e ∷ es)
+    go ih true f g p w = without-drop t (entry k v) es n ∙ sym (without-drop t e es (ap t (sym (same-true k (e .key) p)) ∙ n))
+    go ih false true g p w = without-drop t (entry k v) (e ∷ es) n
+    go ih false false true p w = without-drop t e (put k v es) w ∙ ih ∙ sym (without-drop t e es w)
+    go ih false false false p w = without-keep t e (put k v es) w ∙ ap (λ (r : Contents). e ∷ r) ih ∙ sym (without-keep t e es w)
+
+-- an absent key's removal takes nothing
+pub without-absent : (k : Bytes) (c : Contents) → found k c ≡ None → without (λ j. same j k) c ≡ c
+unfolding without
+without-absent k [] n = refl
+without-absent k (e ∷ es) n = go (without-absent k es) (same k (e .key)) refl
+  where
+    go : (found k es ≡ None → without (λ j. same j k) es ≡ es) → (b : Bool) → same k (e .key) ≡ b → without (λ j. same j k) (e ∷ es) ≡ e ∷ es
+    go ih true p = let h = sym n ∙ found-here k e es p in let z : _≡_ {A = ℕ} 0 1 = cc in absurd (omega arith)
+    go ih false p =
+        without-keep (λ j. same j k) e es (same-flip (e .key) k ∙ p)
+        ∙ ap (λ (c : Contents). e ∷ c) (ih (sym (found-skip k e es p) ∙ n))
+
+-- a value put under a key that was absent, and moved on, is put under the other key
+pub moved-put : (a b v : Bytes) (c : Contents) → found a c ≡ None → moved a b (put a v c) ≡ put b v c
+moved-put a b v c n =
+    moved-some a b v (put a v c) (found-put-same a v c)
+    ∙ ap (put b v) (without-put-off (λ j. same j a) a v c (eq-same a a refl) ∙ without-absent a c n)

@@ -1,0 +1,2 @@
+pub mod Temporaries
+mod Steps
