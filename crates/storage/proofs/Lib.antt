@@ -4,3 +4,4 @@ pub mod Ascends
 pub mod Places
 pub mod Sizes
 pub mod Prefixes
+pub mod Readings

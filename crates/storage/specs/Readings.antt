@@ -17,7 +17,8 @@ use Rattle.ranges.specs.declared.byte_range.ByteRange.{ByteRange}
 use Rattle.extraction.specs.declared.Note.{Note}
 use Rattle.extraction.specs.Extracts.{items, notesFrom, readNo}
 use Rattle.ranges.specs.Buffers.{fronted}
-use Rattle.ranges.specs.Refusals.{few}
+use Rattle.ranges.specs.Refusals.{few, room}
+use Rattle.storage.specs.Contents.{bytesOf}
 use Rattle.storage.specs.declared.fault.Fault.{Fault}
 use Rattle.storage.specs.Faults.{raisedBy, answered}
 
@@ -43,3 +44,12 @@ pub record RangesRead (n : ℕ) (v : Option Bytes) (rs : List ByteRange) (r : Re
   pub answer : r ≡ deepened n (readAnswer v rs (length out) (length notes))
   pub output : out′ ≡ cond (isOk r) (fronted (readBytes v rs) out) out
   pub noted : notes′ ≡ cond (isOk r) (fronted (readNotes v rs) notes) notes
+
+-- the answer to a reading of the whole value into that much space: 9 where it is too short
+abbrev pub valueAnswer : Option Bytes → ℕ → Result (Option ℕ) Fault
+valueAnswer None space = Ok None
+valueAnswer (Some b) space = answered (room space (length b)) (Some (length b))
+
+pub record ValueRead (n : ℕ) (v : Option Bytes) (r : Result (Option ℕ) Fault) (out out′ : Bytes) : Type 0 where
+  pub answer : r ≡ deepened n (valueAnswer v (length out))
+  pub output : out′ ≡ cond (isOk r) (fronted (bytesOf v) out) out

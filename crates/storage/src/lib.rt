@@ -1,4 +1,5 @@
 //! What a store is: faults, the interface, and what is written once over it.
 
 pub mod fault;
+pub mod reads;
 pub mod storage_sync;
