@@ -3,6 +3,7 @@
 ghost use mathlib.Core.Bool.{true, false};
 ghost use mathlib.Core.Path.{_≡_};
 ghost use Prim.Native.Nat.{suc};
+ghost use Rattle.std.specs.declared.result.Result.the-variants.{Ok};
 ghost use Rattle.keys.specs.StoreKeys.{text};
 ghost use Rattle.atomic_write.specs.Exports.{TemporaryKey, Exported, raisedVerdict};
 use extraction::Note;
@@ -55,13 +56,25 @@ impl<S: AtomicRenameStorageTraits> AtomicWriteStorageAdapter<S> {
         ensures { λ r. ⌜ (S·ReadableStorageTraits .tidy ≡ true → Exported S·ReadableStorageTraits (text (now (key .entry))) (now (value .entry)) (now (self .entry) .storage) (now (self .exit) .storage) r) ⌝ }
     {
         let temporary = temporary_key(key)?;
-        if self.storage.size_key(&temporary).is_some() {
+        self.set_via_temporary_key(key, &temporary, value)
+    }
+
+    fn set_via_temporary_key(
+        &mut self,
+        key: &StoreKey,
+        temporary: &StoreKey,
+        value: &[u8],
+    ) -> Result<(), Fault>
+        requires { ⌜ TemporaryKey (text (now key)) (Ok (now temporary)) ⌝ }
+        ensures { λ r. ⌜ (S·ReadableStorageTraits .tidy ≡ true → Exported S·ReadableStorageTraits (text (now (key .entry))) (now (value .entry)) (now (self .entry) .storage) (now (self .exit) .storage) r) ⌝ }
+    {
+        if self.storage.size_key(temporary).is_some() {
             return Err(Fault::own(Cause::Exists));
         }
-        if let Err(f) = self.storage.set(&temporary, value) {
+        if let Err(f) = self.storage.set(temporary, value) {
             return Err(f.raised().at_step(1));
         }
-        match self.storage.rename(&temporary, key) {
+        match self.storage.rename(temporary, key) {
             Ok(()) => Ok(()),
             Err(f) => Err(f.raised().at_step(2)),
         }
