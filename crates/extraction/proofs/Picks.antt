@@ -26,21 +26,17 @@ pub picked-unfit : (b : Bytes) (r : ByteRange) → fitting r (length b) ≡ fals
 unfolding picked
 picked-unfit b r f = rw f
 
-module _ (b : Bytes) (r : ByteRange) (e : Refusal) (fits : fitting r (length b) ≡ true) where
-  -- what a range picks, as it is cut from the bytes
-  picks-inside : (xs : Bytes) → xs ≡ inside b r → Ok xs ≡ okOr (onlyIf (fitting r (length b)) (picked b r)) e
-  picks-inside xs h = rw (fits, picked-fits b r fits, h)
+-- what a range picks, as it is cut from the bytes
+pub cut-rest : (b : Bytes) (r : ByteRange) (o : ℕ) → r ≡ FromStart o None → take (length b - o) (drop o b) ≡ inside b r
+cut-rest b r o is = take-rest b o ∙ ap (inside b) (sym is)
 
-  pub picks-rest : (o : ℕ) → r ≡ FromStart o None → Ok (take (length b - o) (drop o b)) ≡ okOr (onlyIf (fitting r (length b)) (picked b r)) e
-  picks-rest o is = picks-inside _ (take-rest b o ∙ ap (inside b) (sym is))
+pub cut-part : (b : Bytes) (r : ByteRange) (o l : ℕ) → r ≡ FromStart o (Some l) → take (o + l - o) (drop o b) ≡ inside b r
+cut-part b r o l is =
+    let k : o + l - o ≡ l = omega arith in
+    ap (λ (n : ℕ). take n (drop o b)) k ∙ ap (inside b) (sym is)
 
-  pub picks-part : (o l : ℕ) → r ≡ FromStart o (Some l) → Ok (take (o + l - o) (drop o b)) ≡ okOr (onlyIf (fitting r (length b)) (picked b r)) e
-  picks-part o l is =
-      let k : o + l - o ≡ l = omega arith in
-      picks-inside _ (ap (λ (n : ℕ). take n (drop o b)) k ∙ ap (inside b) (sym is))
-
-  pub picks-end : (l : ℕ) → r ≡ Suffix l → Ok (take (length b - (length b - l)) (drop (length b - l) b)) ≡ okOr (onlyIf (fitting r (length b)) (picked b r)) e
-  picks-end l is = picks-inside _ (take-rest b (length b - l) ∙ ap (inside b) (sym is))
+pub cut-end : (b : Bytes) (r : ByteRange) (l : ℕ) → r ≡ Suffix l → take (length b - (length b - l)) (drop (length b - l) b) ≡ inside b r
+cut-end b r l is = take-rest b (length b - l) ∙ ap (inside b) (sym is)
 
 -- what `pick` answers: the picked bytes of a range that fits, else its fault
 pub ok-only : {X : Type 0} (t : Bool) (p : X) (e : Refusal) (x : X) → _≡_ {A = Result X Refusal} (Ok x) (okOr (onlyIf t p) e) → (t ≡ true) × (x ≡ p)
@@ -51,8 +47,13 @@ pub err-only : {X : Type 0} (t : Bool) (p : X) (e f : Refusal) → _≡_ {A = Re
 err-only true p e f h = absurd (let z : _≡_ {A = ℕ} 0 1 = cc in omega arith)
 err-only false p e f h = (refl, cc)
 
-pub picked-from-err : (b : Bytes) (r : ByteRange) (e f : Refusal) → _≡_ {A = Result Bytes Refusal} (Err f) (okOr (onlyIf (fitting r (length b)) (picked b r)) e) → picked b r ≡ []
-picked-from-err b r e f h = picked-unfit b r (err-only (fitting r (length b)) (picked b r) e f h .0)
+pub picked-from-ok : (b : Bytes) (r : ByteRange) (e : Refusal) (x : Bytes) → _≡_ {A = Result Bytes Refusal} (Ok x) (okOr (onlyIf (fitting r (length b)) (inside b r)) e) → x ≡ picked b r
+picked-from-ok b r e x h =
+    let p = ok-only (fitting r (length b)) (inside b r) e x h in
+    p .1 ∙ sym (picked-fits b r (p .0))
+
+pub picked-from-err : (b : Bytes) (r : ByteRange) (e f : Refusal) → _≡_ {A = Result Bytes Refusal} (Err f) (okOr (onlyIf (fitting r (length b)) (inside b r)) e) → picked b r ≡ []
+picked-from-err b r e f h = picked-unfit b r (err-only (fitting r (length b)) (inside b r) e f h .0)
 
 -- the questions of one range
 module _ (b : Bytes) (r : ByteRange) where

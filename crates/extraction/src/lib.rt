@@ -1,12 +1,12 @@
 //! Extraction of byte ranges from bytes.
-ghost use mathlib.Core.Bool.{cond};
+ghost use mathlib.Core.Bool.{cond, true};
 ghost use mathlib.Core.Path.{_≡_};
 ghost use Prim.Native.Nat.{_+_, _≤_, _<_, _^_};
 ghost use lib.ListN.{length};
 ghost use lib.Seq.{paste};
 ghost use Rattle.std.specs.Options.{okOr};
 ghost use Rattle.std.specs.Results.{isOk};
-ghost use Rattle.ranges.specs.Ranges.{onlyIf, inU64, fitting, picked};
+ghost use Rattle.ranges.specs.Ranges.{onlyIf, inU64, fitting, inside, picked};
 ghost use Rattle.ranges.specs.Refusals.{told, valued, unless, rangeRefusal, unfit, allFit, room};
 ghost use Rattle.ranges.specs.Buffers.{fronted};
 ghost use Rattle.extraction.specs.Extracts.{extractRefusal, items, noteAt, notesFrom, rangesNo, oneNo, concatNo, extractNo, readNo};
@@ -57,21 +57,13 @@ impl ExtractError {
 
 /// The bytes of one range.
 pub fn pick(bytes: &[u8], range: ByteRange) -> Result<&[u8], InvalidByteRangeError>
-    ensures { λ r. ⌜ told rangeRefusal (valued r) ≡ okOr (onlyIf (fitting range (length (now (bytes .entry)))) (picked (now (bytes .entry)) range)) (unfit 0 range (length (now (bytes .entry)))) ⌝ }
+    ensures { λ r. ⌜ told rangeRefusal (valued r) ≡ okOr (onlyIf (fitting range (length (now (bytes .entry)))) (inside (now (bytes .entry)) range)) (unfit 0 range (length (now (bytes .entry)))) ⌝ }
 {
-    let n = bytes.len();
-    if !range.fits(n as u64) {
-        return Err(InvalidByteRangeError {
-            range,
-            size: n as u64,
-        });
-    }
-    match range {
-        ByteRange::FromStart(offset, None) => Ok(&bytes[offset as usize..n]),
-        ByteRange::FromStart(offset, Some(length)) => Ok(
-            &bytes[offset as usize..(offset + length) as usize],
-        ),
-        ByteRange::Suffix(length) => Ok(&bytes[n - length as usize..n]),
+    let size = bytes.len() as u64;
+    if range.fits(size) {
+        Ok(cut(bytes, range))
+    } else {
+        Err(InvalidByteRangeError { range, size })
     }
 }
 
@@ -84,16 +76,9 @@ pub fn extract_byte_range(
     ensures answer { λ r. ⌜ told extractRefusal r ≡ unless (oneNo (now (bytes .entry)) range (length (now (out .entry)))) (length (picked (now (bytes .entry)) range)) ⌝ }
     ensures out { λ r. ⌜ now (out .exit) ≡ cond (isOk r) (fronted (picked (now (bytes .entry)) range) (now (out .entry))) (now (out .entry)) ⌝ }
 {
-    let part = match pick(bytes, range) {
-        Ok(part) => part,
-        Err(e) => return Err(ExtractError::Unfit(0, e)),
-    };
-    let n = part.len();
-    if out.len() < n {
-        return Err(ExtractError::Short);
-    }
-    out[0..n].copy_from_slice(part);
-    Ok(n)
+    let len = check_range(bytes, range, out.len())?;
+    copy_front(bytes, range, out);
+    Ok(len)
 }
 
 /// Puts the bytes of the ranges end to end at the front of the output, with a note for each, and returns their number.
@@ -148,6 +133,37 @@ pub fn read_byte_ranges(
     copy_ranges(bytes, ranges, out);
     note_ranges(bytes, ranges, notes);
     Ok(n)
+}
+
+// The bytes of a range that fits.
+fn cut(bytes: &[u8], range: ByteRange) -> &[u8]
+    requires { ⌜ fitting range (length (now bytes)) ≡ true ⌝ }
+    ensures { λ r. ⌜ now r ≡ inside (now (bytes .entry)) range ⌝ }
+{
+    let n = bytes.len();
+    match range {
+        ByteRange::FromStart(offset, None) => &bytes[offset as usize..n],
+        ByteRange::FromStart(offset, Some(length)) => &bytes[offset as usize..(offset
+            + length) as usize],
+        ByteRange::Suffix(length) => &bytes[n - length as usize..n],
+    }
+}
+
+// Does the range fit, and is there room for its bytes?
+fn check_range(bytes: &[u8], range: ByteRange, space: usize) -> Result<usize, ExtractError>
+    ensures { λ r. ⌜ told extractRefusal r ≡ unless (oneNo (now (bytes .entry)) range space) (length (picked (now (bytes .entry)) range)) ⌝ }
+{
+    match pick(bytes, range) {
+        Err(e) => Err(ExtractError::Unfit(0, e)),
+        Ok(part) => {
+            let n = part.len();
+            if space < n {
+                Err(ExtractError::Short)
+            } else {
+                Ok(n)
+            }
+        }
+    }
 }
 
 // Are there at most 64 ranges, and does each fit `n` bytes?
@@ -234,6 +250,14 @@ fn copy_range(bytes: &[u8], range: ByteRange, out: &mut [u8], at: usize) -> usiz
         }
         Err(_) => at,
     }
+}
+
+// Puts the picked bytes of a range at the front of the output.
+fn copy_front(bytes: &[u8], range: ByteRange, out: &mut [u8])
+    requires { ⌜ length (picked (now bytes) range) ≤ length (now out) ⌝ }
+    ensures { λ _. ⌜ now (out .exit) ≡ fronted (picked (now (bytes .entry)) range) (now (out .entry)) ⌝ }
+{
+    let _end = copy_range(bytes, range, out, 0);
 }
 
 // Writes the notes of the ranges at the front of the notes.

@@ -1,5 +1,4 @@
 use keys::store_prefix::StorePrefix;
-use keys::store_prefix::StorePrefixErrorDebug;
 use keys::store_prefix::orders::StorePrefixPartialEq;
 use keys::store_prefix::orders::StorePrefixTotalOrder;
 use order::total_order::TotalOrder;
@@ -14,8 +13,23 @@ fn refusal(bytes: &[u8]) -> u8 {
     }
 }
 
-fn same(a: &[u8], b: &[u8]) -> bool {
-    a == b
+/// The prefix of these bytes, or the root prefix.
+fn prefix(bytes: &[u8]) -> StorePrefix {
+    match StorePrefix::new(bytes) {
+        Ok(prefix) => prefix,
+        Err(_) => StorePrefix::root(),
+    }
+}
+
+fn parent_is(bytes: &[u8], parent: &[u8]) -> bool {
+    match prefix(bytes).parent() {
+        Some(p) => p.as_bytes() == parent,
+        None => false,
+    }
+}
+
+fn order(a: &[u8], b: &[u8]) -> Ordering {
+    prefix(a).compare(&prefix(b))
 }
 
 #[test]
@@ -29,7 +43,7 @@ fn prefix_lengths() -> Result<(), Fail> {
     check_eq(refusal(&long[0..121]), 0)?;
     long[121] = b'/';
     check_eq(refusal(&long), 3)?;
-    check_eq(StorePrefix::validate(&long), true)
+    check(StorePrefix::validate(&long))
 }
 
 #[test]
@@ -46,23 +60,16 @@ fn prefix_rule() -> Result<(), Fail> {
 #[test]
 fn prefix_parents() -> Result<(), Fail> {
     check(StorePrefix::root().parent().is_none())?;
-    let ab = StorePrefix::new(b"a/b/")?;
-    let Some(a) = ab.parent() else {
-        return Err(Fail::new("a/b/ has a parent"));
-    };
-    check(same(a.as_bytes(), b"a/"))?;
-    let Some(root) = a.parent() else {
-        return Err(Fail::new("a/ has a parent"));
-    };
-    check(root == StorePrefix::root())
+    check(parent_is(b"a/b/", b"a/"))?;
+    check(parent_is(b"a/", b""))?;
+    check(parent_is(b"a//", b"a/"))
 }
 
 #[test]
 fn prefix_order() -> Result<(), Fail> {
-    let a = StorePrefix::new(b"a/")?;
-    let ab = StorePrefix::new(b"a/b/")?;
-    check_eq(StorePrefix::root().compare(&a), Ordering::Less)?;
-    check_eq(ab.compare(&a), Ordering::Greater)?;
-    check_eq(a.compare(&a), Ordering::Equal)?;
-    check(a != ab)
+    check_eq(order(b"", b"a/"), Ordering::Less)?;
+    check_eq(order(b"a/b/", b"a/"), Ordering::Greater)?;
+    check_eq(order(b"a/", b"a/"), Ordering::Equal)?;
+    check(prefix(b"a/") == prefix(b"a/"))?;
+    check(prefix(b"a/") != prefix(b"a/b/"))
 }

@@ -1,13 +1,13 @@
 -- The laws of the order of texts.
-use mathlib.Core.Path.{_≡_, refl, sym, ap, _∙_}
+use mathlib.Core.Path.{_≡_, refl, ap, _∙_}
 use mathlib.Core.Bool.{true≢false}
-use mathlib.Core.List.{List, [], _∷_, _++_}
+use mathlib.Core.List.{[], _∷_, _++_}
 use Prim.Native.Nat.{ℕ, _<_}
 use Rattle.std.specs.Keys.{unsigned, rank}
 use Rattle.std.specs.Lexical.{Lex, lex, lex-says, lex-flip, lex-trans}
 use Rattle.std.specs.Orderings.{Ranked, thenBy, isLt, isGt}
 use Rattle.std.specs.declared.cmp.Ordering.{Ordering}
-use Rattle.std.specs.declared.cmp.Ordering.the-variants.{Less, Equal, Greater}
+use Rattle.std.specs.declared.cmp.Ordering.the-variants.{Less, Equal}
 use Rattle.order.specs.Orders.{Lawful}
 use Rattle.order.proofs.Orders.{itself, numbers-lawful, first-equal, second-equal}
 use Rattle.keys.specs.Text.{Bytes}

@@ -1,4 +1,5 @@
 pub mod ByteOrder
+pub mod KeyExamples
 pub mod Padded
 pub mod Parents
 pub mod Rows

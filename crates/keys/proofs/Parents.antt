@@ -1,13 +1,12 @@
 -- The parent of a text: the text through its last slash.
 use mathlib.Core.Path.{_≡_, refl, sym, ap, subst, _∙_}
-use mathlib.Core.List.{[], _∷_, _++_}
 use mathlib.Core.Logic.{inl, inr}
 use Prim.Native.Nat.{ℕ, _+_, _-_, _≤_, _<_}
 use native.Mathlib.Omega.{arith}
 use lib.ListN.{length, getD, take, drop, length-append, length-drop}
 use Rattle.std.proofs.shelf.Lists.{take-append-drop, getD-drop, getD-take, getD-append-left, getD-append-right, length-take-le, take-at, nil-from-length}
 use Rattle.std.proofs.shelf.Tests.{cases-lt}
-use Rattle.keys.specs.Text.{Bytes, slash, BeginsSlash, FinalSlash, SlashFree, PrefixText, Parent}
+use Rattle.keys.specs.Text.{Bytes, slash, BeginsSlash, FinalSlash, PrefixText, Parent}
 use Rattle.keys.proofs.Texts.{begins-front, ends-at, ends-from, ends-from-final, final-from-ends, final-nil, free-at, free-from, prefix-text}
 
 -- the first i bytes, where no slash follows and the last of them is one

@@ -1,13 +1,11 @@
 -- Rows in order, and by their texts.
-use mathlib.Core.Path.{_≡_, refl, sym, ap, _∙_}
-use Prim.Native.Nat.{ℕ, _≤_, _<_}
+use mathlib.Core.Path.{_≡_, sym, ap, _∙_}
+use Prim.Native.Nat.{_<_}
 use native.Mathlib.Omega.{arith}
 use lib.ListN.{length, take, length-take}
-use Rattle.std.specs.Keys.{rank}
 use Rattle.order.specs.Orders.{Lawful}
 use Rattle.order.proofs.Orders.{lawful-by, numbers-lawful, pairs-lawful}
 use Rattle.std.proofs.shelf.Lists.{take-all}
-use Rattle.keys.specs.ByteOrder.{compareBytes}
 use Rattle.keys.specs.Text.{Bytes, padded}
 use Rattle.keys.specs.Rows.{rowText, RowOf, compareRows}
 use Rattle.keys.specs.declared.row.Row.{Row}

@@ -1,13 +1,13 @@
 -- Facts on the rules of texts.
 use mathlib.Core.Path.{_≡_, refl, sym, ap, subst, _∙_}
-use mathlib.Core.List.{List, [], _∷_, _++_}
+use mathlib.Core.List.{[], _∷_, _++_, append-assoc}
 use mathlib.Core.HLevel.{¬-prop, ×-prop, ×₃-prop, Π-prop, →-prop}
 use native.Mathlib.Nat.{ℕ-set}
 use Prim.Native.Nat.{ℕ, _+_, _-_, _<_, _≤_}
 use native.Mathlib.Omega.{arith}
 use lib.ListN.{length, getD, take, drop, length-append}
-use Rattle.std.proofs.shelf.Lists.{take-append-drop, drop-more, drop-all, getD-at, getD-append-add, getD-append-left, take-at, length-push, same-from-push}
-use Rattle.std.proofs.shelf.Tests.{cases-eq}
+use Rattle.std.proofs.shelf.Lists.{take-append-drop, drop-more, drop-all, getD-at, getD-append-add, getD-append-left, getD-append-right, nil-from-length, take-at, take-append-le, length-push, same-from-push}
+use Rattle.std.proofs.shelf.Tests.{cases-eq, cases-lt}
 use mathlib.Core.Bool.{Bool}
 use mathlib.Core.Logic.{inl, inr}
 use Rattle.std.specs.Orderings.{Decides}
@@ -161,3 +161,46 @@ key-text-or-nil (b ∷ t) f = f (omega arith)
 pub prefix-text-or-nil : (t : Bytes) → (0 < length t → PrefixText t) → PrefixText t
 prefix-text-or-nil [] f = prefix-text-nil
 prefix-text-or-nil (b ∷ t) f = f (omega arith)
+
+-- a slash of a text with a slash-free part behind it stands in the text
+pub slash-in-front : (t s : Bytes) → SlashFree s → (k : ℕ) → k < length (t ++ s) → getD (t ++ s) k 0 ≡ slash → (k < length t) × (getD t k 0 ≡ slash)
+slash-in-front t s f k l e =
+    elim (cases-lt k (length t)) [
+      | inl b ↦ (b, sym (getD-append-left t s 0 k b) ∙ e)
+      | inr b ↦ absurd (free-at s f (k - length t) (omega (arith, length-append t s)) (sym (getD-append-right t s (length t) k 0 refl b) ∙ e))
+    ]
+
+-- a slash-free part may stand behind any key
+pub key-text-suffix : (t s : Bytes) → KeyText t → SlashFree s → KeyText (t ++ s)
+key-text-suffix t s key f =
+    let n : length (t ++ s) ≡ length t + length s = length-append t s in
+    key-text
+    (t ++ s)
+    (λ h. let p = begins-at (t ++ s) h in let q = slash-in-front t s f 0 (p .0) (p .1) in not-beginning t key (begins-from t (q .0) (q .1)))
+    (λ h.
+    let p = ends-at (t ++ s) h in
+    let q = slash-in-front t s f (length (t ++ s) - 1) (omega (arith, p .0)) (p .1) in
+    let e : length (t ++ s) - 1 ≡ length t - 1 = omega (arith, q .0) in
+    not-ending t key (ends-from t (omega (arith, q .0)) (ap (λ j. getD t j 0) (sym e) ∙ q .1)))
+    (λ h.
+    let p = double-at (t ++ s) h in
+    let a = slash-in-front t s f (p .0) (omega (arith, p .1)) (p .2) in
+    let b = slash-in-front t s f (p .0 + 1) (p .1) (p .3) in
+    not-double t key (double-from t (p .0) (b .0) (a .1) (b .1)))
+
+-- what a text begins with, and a text with more behind it
+pub begins-more : (t s p : Bytes) → Begins t p → Begins (t ++ s) p
+begins-more t s p (r, e) = (r ++ s, ap (λ z. z ++ s) e ∙ append-assoc p r s)
+
+-- a slash-free part changes no prefix that a text lies under
+pub begins-suffix : (t s p : Bytes) → SlashFree s → FinalSlash p → Begins (t ++ s) p → Begins t p
+begins-suffix t s p f g (r, e) =
+    elim (cases-lt 0 (length p)) [
+      | inr h ↦ (t, ap (λ z. z ++ t) (sym (nil-from-length p (omega arith))))
+      | inl h ↦
+          let n : length (t ++ s) ≡ length p + length r = ap length e ∙ length-append p r in
+          let last : getD (t ++ s) (length p - 1) 0 ≡ slash = ap (λ z. getD z (length p - 1) 0) e ∙ getD-append-left p r 0 (length p - 1) (omega arith) ∙ ends-at p (ends-from-final p h g) .1 in
+          let q : length p - 1 < length t = slash-in-front t s f (length p - 1) (omega arith) last .0 in
+          let front : p ≡ take (length p) t = sym (take-at p r (length p) refl) ∙ ap (λ z. take (length p) z) (sym e) ∙ take-append-le (length p) t s (omega arith) in
+          (drop (length p) t, sym (take-append-drop (length p) t) ∙ ap (λ z. z ++ drop (length p) t) (sym front))
+    ]

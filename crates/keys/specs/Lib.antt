@@ -1,4 +1,5 @@
 pub mod ByteOrder
+pub mod KeyExamples
 pub mod Rows
 pub mod StoreKeys
 pub mod StorePrefixes

@@ -1,12 +1,12 @@
 -- What a plain row means: its text, and the key or prefix that it turns into.
 use mathlib.Core.Path.{_≡_}
-use Prim.Native.Nat.{ℕ, _≤_, _<_}
+use Prim.Native.Nat.{_≤_, _<_}
 use lib.ListN.{length, take}
 use Rattle.std.specs.Keys.{rank}
 use Rattle.std.specs.Orderings.{thenBy}
 use Rattle.std.specs.declared.cmp.Ordering.{Ordering}
 use Rattle.std.specs.declared.result.Result.{Result}
-use Rattle.std.specs.declared.result.Result.the-variants.{Ok, Err}
+use Rattle.std.specs.declared.result.Result.the-variants.{Err}
 use Rattle.keys.specs.ByteOrder.{compareBytes}
 use Rattle.keys.specs.Text.{Bytes, padded}
 use Rattle.keys.specs.StoreKeys.{MadeKey}
@@ -17,6 +17,7 @@ use Rattle.keys.specs.declared.store_key.StoreKeyError as key-error
 use Rattle.keys.specs.declared.store_prefix.StorePrefix.{StorePrefix}
 use Rattle.keys.specs.declared.store_prefix.StorePrefixError as prefix-error
 
+-- the text of a row: its first bytes, or all where its length passes them
 abbrev pub rowText : Row → Bytes
 rowText r = take (r .len) (r .bytes)
 

@@ -9,6 +9,7 @@ use Rattle.keys.specs.declared.store_key.StoreKey.{StoreKey}
 use Rattle.keys.specs.declared.store_key.StoreKeyError.{StoreKeyError}
 use Rattle.keys.specs.declared.store_key.StoreKeyError.the-variants.{TooLong, Invalid}
 
+-- the text of a key
 abbrev pub text : StoreKey → Bytes
 text k = take (k .len) (k .bytes)
 

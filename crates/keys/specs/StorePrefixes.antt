@@ -12,6 +12,7 @@ use Rattle.keys.specs.declared.store_prefix.StorePrefix.{StorePrefix}
 use Rattle.keys.specs.declared.store_prefix.StorePrefixError.{StorePrefixError}
 use Rattle.keys.specs.declared.store_prefix.StorePrefixError.the-variants.{TooLong, Invalid}
 
+-- the text of a prefix
 abbrev pub prefixText : StorePrefix → Bytes
 prefixText p = take (p .len) (p .bytes)
 

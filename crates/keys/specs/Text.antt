@@ -4,6 +4,7 @@ use mathlib.Core.List.{List, [], _∷_, _++_}
 use Prim.Native.Nat.{ℕ, _-_}
 use lib.ListN.{length, take, replicate}
 
+-- a text
 abbrev pub Bytes : Type 0
 Bytes = List ℕ
 

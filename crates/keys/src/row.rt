@@ -130,3 +130,5 @@ pub impl PartialEq<Row> for Row as RowPartialEq {
         self.len == other.len && same_bytes(&self.bytes, &other.bytes)
     }
 }
+
+pub impl Eq for Row as RowEq {}

@@ -1,7 +1,7 @@
 -- What follows from the laws of a total order, and orders made from orders.
 use mathlib.Core.Path.{_≡_, refl, sym, ap, subst, _∙_}
 use mathlib.Core.Bool.{true≢false}
-use Prim.Native.Nat.{ℕ, _<_}
+use Prim.Native.Nat.{_<_}
 use Rattle.std.specs.Keys.{rank, ranks, unsigned}
 use Rattle.std.specs.Orderings.{Ranked, reversed, thenBy, isLt, isGt}
 use Rattle.std.specs.declared.cmp.Ordering.{Ordering}

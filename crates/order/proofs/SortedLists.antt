@@ -2,16 +2,15 @@
 use mathlib.Core.Path.{_≡_, refl, sym, ap, subst, _∙_}
 use mathlib.Core.List.{List, [], _∷_, _++_, append-assoc}
 use mathlib.Core.Logic.{_⊎_, inl, inr, ⊎-elim}
-use Prim.Native.Nat.{ℕ, suc, _+_, _-_, _≤_, _<_}
+use Prim.Native.Nat.{ℕ, _+_, _-_, _≤_, _<_}
 use native.Mathlib.Omega.{arith}
-use lib.ListN.{length, getD, take, drop, set, length-append, length-take, length-drop}
+use lib.ListN.{length, getD, take, drop, length-append, length-take, length-drop}
 use Rattle.std.specs.Holes.{between}
 use Rattle.std.specs.Sorted.{Sorted}
 use Rattle.std.specs.shelf.Lists.{All, Has, Every}
 use Rattle.std.specs.declared.cmp.Ordering.{Ordering}
-use Rattle.std.specs.declared.cmp.Ordering.the-variants.{Less, Equal, Greater}
+use Rattle.std.specs.declared.cmp.Ordering.the-variants.{Less, Greater}
 use Rattle.std.proofs.shelf.Lists.{take-at, drop-at, take-take, take-append-drop, getD-take, getD-drop, getD-default, getD-append-left, getD-append-right, length-take-le}
-use Rattle.std.proofs.shelf.Edits.{length-between}
 use Rattle.std.proofs.shelf.Parts.{between-is}
 use Rattle.std.proofs.shelf.Elements.{all-from-getD, all-has, has-append-left, has-append-right}
 use Rattle.std.proofs.shelf.Lawful.{less-from-sorted}

@@ -237,3 +237,10 @@ laid-on-copy d ps old w w1 next m places e e-m e-next =
 -- the places are inside, once the questions are answered yes
 pub places-fit : (d : Bytes) (ps : List Patch) (n space : ℕ) → inPlaceNo d ps n space ≡ None → placesInside (length d) 0 ps ≡ None
 places-fit d ps n space h = none-of-three (few ps) (placesInside (length d) 0 ps) (room space (patchedLength n ps)) h .1
+
+-- there is room for the patched bytes, once the questions are answered yes
+pub space-fits : (d : Bytes) (ps : List Patch) (n space : ℕ) → inPlaceNo d ps n space ≡ None → patchedLength n ps ≤ space
+space-fits d ps n space h = enough-from-room space (patchedLength n ps) (none-of-three (few ps) (placesInside (length d) 0 ps) (room space (patchedLength n ps)) h .2)
+
+pub length-fronted : (new old : Bytes) → length new ≤ length old → length (fronted new old) ≡ length old
+length-fronted new old h = omega (arith, length-append new (drop (length new) old), length-drop (length new) old)

@@ -102,10 +102,8 @@ pub fn lay_patches(
     ensures answer { λ r. ⌜ told patchRefusal r ≡ unless (layNo (now (source .entry)) (now (patches .entry)) (now (old .entry)) (length (now (work .entry)))) (length (laidAll (now (source .entry)) (now (patches .entry)) (now (old .entry)))) ⌝ }
     ensures work { λ r. ⌜ now (work .exit) ≡ cond (isOk r) (fronted (laidAll (now (source .entry)) (now (patches .entry)) (now (old .entry))) (now (work .entry))) (now (work .entry)) ⌝ }
 {
-    let n = old.len();
-    check_lay(n, patches, source, work.len())?;
-    work[0..n].copy_from_slice(old);
-    Ok(lay_all(n, patches, source, work))
+    check_lay(old, patches, source, work.len())?;
+    Ok(lay_on_copy(old, patches, source, work))
 }
 
 /// Lays the patches in turn on the first `old_len` bytes of the work buffer, and returns how many bytes there are then.
@@ -118,12 +116,19 @@ pub fn lay_patches_in_place(
     ensures answer { λ r. ⌜ told patchRefusal r ≡ unless (inPlaceNo (now (source .entry)) (now (patches .entry)) «old_len» (length (now (work .entry)))) (length (laidAll (now (source .entry)) (now (patches .entry)) (take «old_len» (now (work .entry))))) ⌝ }
     ensures work { λ r. ⌜ now (work .exit) ≡ cond (isOk r) (fronted (laidAll (now (source .entry)) (now (patches .entry)) (take «old_len» (now (work .entry)))) (now (work .entry))) (now (work .entry)) ⌝ }
 {
-    check_lay(old_len, patches, source, work.len())?;
+    check_in_place(old_len, patches, source, work.len())?;
     Ok(lay_all(old_len, patches, source, work))
 }
 
+// The questions before patches are laid on the old bytes.
+fn check_lay(old: &[u8], patches: &[Patch], source: &[u8], space: usize) -> Result<(), PatchError>
+    ensures { λ r. ⌜ told patchRefusal r ≡ unless (layNo (now (source .entry)) (now (patches .entry)) (now (old .entry)) space) tt ⌝ }
+{
+    check_in_place(old.len(), patches, source, space)
+}
+
 // The questions before patches are laid on `old_len` bytes.
-fn check_lay(
+fn check_in_place(
     old_len: usize,
     patches: &[Patch],
     source: &[u8],
@@ -143,6 +148,17 @@ fn check_room(old_len: usize, patches: &[Patch], space: usize) -> Result<(), Pat
         Some(n) if n <= space as u64 => Ok(()),
         _ => Err(PatchError::Short),
     }
+}
+
+// Lays the patches in turn on a copy of the old bytes at the front of the work buffer.
+fn lay_on_copy(old: &[u8], patches: &[Patch], source: &[u8], work: &mut [u8]) -> usize
+    requires { ⌜ layNo (now source) (now patches) (now old) (length (now work)) ≡ None ⌝ }
+    ensures len { λ r. ⌜ r ≡ length (laidAll (now (source .entry)) (now (patches .entry)) (now (old .entry))) ⌝ }
+    ensures work { λ _. ⌜ now (work .exit) ≡ fronted (laidAll (now (source .entry)) (now (patches .entry)) (now (old .entry))) (now (work .entry)) ⌝ }
+{
+    let n = old.len();
+    work[0..n].copy_from_slice(old);
+    lay_all(n, patches, source, work)
 }
 
 // Lays the patches in turn on the first `old_len` bytes.

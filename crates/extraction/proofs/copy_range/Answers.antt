@@ -1,3 +1,4 @@
+use borrow.Author.Needs.{needs}
 use Prim.Native.Nat.{_+_, _-_}
 use mathlib.Core.List.{[]}
 use mathlib.Core.Path.{_≡_, sym, _∙_, ap}
@@ -6,13 +7,13 @@ use lib.ListN.{length}
 use lib.Seq.{paste}
 use Rattle.std.proofs.shelf.Edits.{paste-none}
 use Rattle.ranges.specs.Ranges.{Bytes, picked}
-use Rattle.extraction.proofs.Picks.{ok-only, picked-from-err}
+use Rattle.extraction.proofs.Picks.{picked-from-ok, picked-from-err}
 use Rattle.ranges.proofs.Writes.{put-part}
 use Rattle.extraction.proofs.copy_range.Needs as need
 
 pub returns-in-Ok : need.returns-in-Ok
 returns-in-Ok c =
-    let p = ok-only _ _ _ _ (c .in-Ok .ensures tt) .1 in
+    let p = picked-from-ok (c .args .bytes .now) (c .args .range) _ _ (c .in-Ok .ensures tt) in
     let k = c .args .at + length (c .in-Ok .part .now) - c .args .at in
     let e : k ≡ length (picked (c .args .bytes .now) (c .args .range)) = omega (arith, ap length p) in
     record {
@@ -27,3 +28,6 @@ returns-in-Err c =
       end = omega (arith, ap length p);
       out = paste-none (c .args .out .now) (c .args .at) [] ∙ ap (λ (xs : Bytes). paste (c .args .out .now) (c .args .at) xs (length xs)) (sym p);
     }
+
+pub part-copy-from-slice-end : need.part-copy-from-slice-end
+part-copy-from-slice-end c = let e = ap length (picked-from-ok (c .args .bytes .now) (c .args .range) _ _ (c .in-Ok .ensures tt)) in search needs

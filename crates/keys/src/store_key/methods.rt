@@ -24,6 +24,9 @@ impl StoreKeyError {
 }
 
 impl StoreKey {
+    /// The most bytes that a key has.
+    pub const MAX_KEY_LEN: usize = MAX_KEY_LEN;
+
     /// The root key: no bytes.
     pub fn root() -> Self
         ensures { λ r. ⌜ text r ≡ [] ⌝ }

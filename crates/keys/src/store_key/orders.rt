@@ -24,3 +24,5 @@ pub impl PartialEq<StoreKey> for StoreKey as StoreKeyPartialEq {
         same_bytes(self.as_bytes(), other.as_bytes())
     }
 }
+
+pub impl Eq for StoreKey as StoreKeyEq {}

@@ -25,6 +25,9 @@ impl StorePrefixError {
 }
 
 impl StorePrefix {
+    /// The most bytes that a prefix has.
+    pub const MAX_PREFIX_LEN: usize = MAX_PREFIX_LEN;
+
     /// The root prefix: no bytes.
     pub fn root() -> Self
         ensures { λ r. ⌜ prefixText r ≡ [] ⌝ }

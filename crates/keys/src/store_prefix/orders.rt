@@ -24,3 +24,5 @@ pub impl PartialEq<StorePrefix> for StorePrefix as StorePrefixPartialEq {
         same_bytes(self.as_bytes(), other.as_bytes())
     }
 }
+
+pub impl Eq for StorePrefix as StorePrefixEq {}

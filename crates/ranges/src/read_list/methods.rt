@@ -1,8 +1,9 @@
 ghost use mathlib.Core.List.{[]};
 ghost use mathlib.Core.Path.{_≡_};
+ghost use lib.Dec.{T};
 ghost use lib.ListN.{length};
 ghost use Rattle.std.specs.Finite.{nth};
-ghost use Rattle.std.specs.Sorted.{Sorted};
+ghost use Rattle.std.specs.shelf.Lawful.{sorted-test};
 ghost use Rattle.ranges.specs.Orders.{compareRanges};
 ghost use Rattle.ranges.specs.ReadLists.{reads, Added};
 use super::ReadList;
@@ -34,26 +35,32 @@ impl ReadList {
     pub fn len(&self) -> usize
         ensures { λ r. ⌜ r ≡ length (reads (now (self .entry))) ⌝ }
     {
-        let n = self.len;
-        n
+        self.as_slice().len()
     }
 
     /// The range at an index, in ascending order; none past the last.
     pub fn get(&self, i: usize) -> Option<ByteRange>
         ensures { λ r. ⌜ r ≡ nth (reads (now (self .entry))) i ⌝ }
     {
-        if i < self.len {
-            Some(self.ranges[i])
-        } else {
-            None
-        }
+        at(self.as_slice(), i)
     }
 
     /// The ranges, in ascending order.
     pub fn as_slice(&self) -> &[ByteRange]
         ensures value { λ r. ⌜ now r ≡ reads (now (self .entry)) ⌝ }
-        ensures ascends { λ r. ⌜ Sorted compareRanges (now r) ⌝ }
+        ensures ascends { λ r. ⌜ T (sorted-test compareRanges (now r)) ⌝ }
     {
         &self.ranges[0..self.len]
+    }
+}
+
+// The range at an index; none past the last.
+fn at(ranges: &[ByteRange], i: usize) -> Option<ByteRange>
+    ensures { λ r. ⌜ r ≡ nth (now (ranges .entry)) i ⌝ }
+{
+    if i < ranges.len() {
+        Some(ranges[i])
+    } else {
+        None
     }
 }

@@ -1,4 +1,5 @@
 use mathlib.Core.Path.{refl}
+use mathlib.Core.Logic.{inl, inr}
 use native.Mathlib.Omega.{arith}
 use Rattle.order.specs.Orders.{Lawful}
 use Rattle.order.proofs.SortedLists.{absent-from-placed, holding-same, holding-added}
@@ -12,6 +13,7 @@ pub returns-in-Ok : need.returns-in-Ok
 returns-in-Ok g c = (
   c .if-len-items .left,
   λ up. holding-same (g .T·TotalOrder .compared) (c .args .items .now) (c .args .len) (c .in-Ok .field-0) (c .args .x) (c .if-len-items .left) (c .in-Ok .ensures tt .0) (c .in-Ok .ensures tt .1) up,
+  inl (refl, refl),
 )
 
 pub returns-then-len-items-2 : need.returns-then-len-items-2
@@ -25,4 +27,5 @@ pub returns : need.returns
 returns g c = (
   c .if-len-items .left,
   λ up. holding-added (laws g) (c .args .items .now) (c .args .len) (c .in-Err .place) (c .args .x) (c .if-len-items .left) (c .in-Err .ensures tt) up (c .put .last .items) (omega arith) (c .put .ensures),
+  inr (c .in-Err .place, c .in-Err .ensures tt .0, omega arith, refl, c .put .ensures),
 )

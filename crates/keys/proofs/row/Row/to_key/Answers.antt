@@ -1,7 +1,5 @@
 use borrow.Author.Needs.{needs}
-use mathlib.Core.Path.{_≡_, refl}
-use native.Mathlib.Omega.{arith}
-use lib.ListN.{length}
+use mathlib.Core.Path.{refl}
 use Rattle.keys.proofs.Rows.{long-row-text}
 use Rattle.keys.proofs.row.Row.to_key.Needs as need
 

@@ -1,7 +1,7 @@
 use mathlib.Core.Path.{_≡_, sym, ap, subst, _∙_}
 use mathlib.Core.List.{_++_}
 use native.Mathlib.Omega.{arith}
-use Prim.Native.Nat.{ℕ, _+_, _-_, _≤_}
+use Prim.Native.Nat.{_+_, _-_, _≤_}
 use lib.ListN.{length, take, drop, replicate, length-append}
 use Rattle.keys.specs.Text.{Bytes, PrefixText, padded}
 use Rattle.keys.proofs.Padded.{laid-padded, take-padded, drop-padded, length-padded}

@@ -1,6 +1,4 @@
-use Prim.Native.Nat.{_<_}
 use native.Mathlib.Omega.{arith}
-use lib.ListN.{length}
 use Rattle.keys.proofs.Texts.{prefix-from-key}
 use Rattle.keys.proofs.store_prefix.StorePrefix.of_key.Needs as need
 

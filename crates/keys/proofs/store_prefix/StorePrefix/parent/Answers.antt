@@ -1,10 +1,10 @@
 use mathlib.Core.Path.{_≡_, sym, ap, subst, _∙_}
 use mathlib.Core.List.{[], _∷_, _++_}
-use Prim.Native.Nat.{ℕ, _-_, _<_}
+use Prim.Native.Nat.{_-_, _<_}
 use native.Mathlib.Omega.{arith}
 use lib.ListN.{length, take}
 use Rattle.std.proofs.shelf.Lists.{length-take-le}
-use Rattle.keys.specs.Text.{Bytes, BeginsSlash, slash, shortened}
+use Rattle.keys.specs.Text.{BeginsSlash, slash, shortened}
 use Rattle.keys.specs.StorePrefixes.{prefixText}
 use Rattle.keys.specs.declared.store_prefix.StorePrefix.{StorePrefix}
 use Rattle.keys.proofs.StorePrefixes.{length-prefix-text, shortened-text}
