@@ -12,8 +12,6 @@ ghost use Rattle.ranges.specs.Refusals.{told, unless, room};
 ghost use Rattle.ranges.specs.Buffers.{fronted};
 ghost use Rattle.patches.specs.Patches.{patchRefusal, laid, patchBytes, laidAll, patchedLength, placesInside, patchesNo, layNo, inPlaceNo};
 
-pub mod examples;
-
 /// The most patches that one call takes.
 pub const MAX_PATCHES: usize = 64;
 

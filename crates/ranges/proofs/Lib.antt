@@ -1,4 +1,5 @@
 pub mod Questions
+pub mod RangeExamples
 pub mod RangeOrder
 pub mod ReadLists
 pub mod Writes

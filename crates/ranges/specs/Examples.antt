@@ -11,7 +11,7 @@ use Rattle.ranges.specs.declared.byte_range.ByteRange.the-variants.{FromStart,
 use Rattle.ranges.specs.Ranges.{bounded, fitting, picked}
 use Rattle.ranges.specs.Refusals.{refusal, unfit, allFit}
 
-pub record Examples : Type 0 where
+pub record RangeExamples : Type 0 where
   -- of 3 bytes a suffix of 4 gives 4
   pub suffix-unfit : allFit 3 0 (Suffix 4 ∷ []) ≡ Some (unfit 0 (Suffix 4) 3)
   pub unfit-number : unfit 0 (Suffix 4) 3 .number ≡ 4

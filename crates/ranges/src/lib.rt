@@ -1,5 +1,4 @@
 //! Byte ranges, their order, and read lists of ranges.
 
 pub mod byte_range;
-pub mod examples;
 pub mod read_list;

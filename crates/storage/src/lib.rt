@@ -1,5 +1,6 @@
 //! What a store is: faults, the interface, and what is written once over it.
 
+pub mod examples;
 pub mod fault;
 pub mod reads;
 pub mod storage_sync;

@@ -1,13 +1,13 @@
+-- The examples of ranges hold.
 use mathlib.Core.Path.{refl}
-use Rattle.ranges.specs.Examples.{Examples}
+use Rattle.ranges.specs.Examples.{RangeExamples}
 use Rattle.ranges.specs.Ranges.{picked}
 use Rattle.ranges.specs.Refusals.{firstBad}
-use Rattle.ranges.proofs.examples.range_examples.Needs as need
 
 -- each by computation
-shown : Examples
+pub range-examples : RangeExamples
 unfolding picked firstBad
-shown = record {
+range-examples = record {
   suffix-unfit = refl;
   unfit-number = refl;
   rest-fits = refl;
@@ -15,6 +15,3 @@ shown = record {
   excluded-included = refl;
   crossed-bounds = refl;
 }
-
-pub returns : need.returns
-returns c = record { count = refl; hold = shown }
