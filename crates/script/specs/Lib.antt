@@ -1,0 +1,4 @@
+pub mod Commands
+pub mod Hex
+pub mod Values
+pub mod Words
