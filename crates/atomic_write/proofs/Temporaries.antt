@@ -37,11 +37,13 @@ temporary-text k h t = key-text (k ++ suffix) (λ b. not-beginning k t (begins-o
   where
     no-end : EndsSlash (k ++ suffix) → ⊥
     no-end e = behind k (length (k ++ suffix) - 1) (omega (arith, length-append k suffix)) (ends-at (k ++ suffix) e .1)
+
     no-double : DoubleSlash (k ++ suffix) → ⊥
     no-double d = go (cases-lt (p .0 + 1) (length k))
       where
         p : (i : ℕ) × (i + 1 < length (k ++ suffix)) × (getD (k ++ suffix) i 0 ≡ slash) × (getD (k ++ suffix) (i + 1) 0 ≡ slash)
         p = double-at (k ++ suffix) d
+
         go : (p .0 + 1 < length k) ⊎ (length k ≤ p .0 + 1) → ⊥
         go (inl l) =
             not-double k t

@@ -81,11 +81,17 @@ impl<S: AtomicRenameStorageTraits> AtomicWriteStorageAdapter<S> {
     }
 }
 
-pub impl<S: ReadableStorageTraits> ReadableStorageTraits for AtomicWriteStorageAdapter<S> as AdapterReadable {
+pub impl<S: ReadableStorageTraits> ReadableStorageTraits for AtomicWriteStorageAdapter<
+    S,
+> as AdapterReadable {
     ghost contents = { λ a. contents (a .storage) };
+
     ghost verdict = { λ a. raisedVerdict (verdict (a .storage)) };
+
     ghost tidy = { false };
+
     ghost inplace = { false };
+
     ghost layers = { suc layers };
 
     fn size_key(&self, key: &StoreKey) -> Option<u64> {
@@ -110,7 +116,9 @@ pub impl<S: ReadableStorageTraits> ReadableStorageTraits for AtomicWriteStorageA
     }
 }
 
-pub impl<S: ListableStorageTraits> ListableStorageTraits for AtomicWriteStorageAdapter<S> as AdapterListable {
+pub impl<S: ListableStorageTraits> ListableStorageTraits for AtomicWriteStorageAdapter<
+    S,
+> as AdapterListable {
     fn key_at(&self, n: usize) -> Option<StoreKey> {
         self.storage.key_at(n)
     }

@@ -68,8 +68,8 @@ unfolding cut
 cut-around ps s qs u v w e f =
     cut-append ps (s ∷ qs) u (v ++ w) e
     ∙ ap (λ (c : Contents). cut ps u ++ c)
-      (ap (λ (x : Bytes). record { key = text (s .key); value = x } ∷ cut qs (drop (s .len) (v ++ w))) (take-at v w (s .len) f)
-       ∙ ap (λ (x : Bytes). record { key = text (s .key); value = v } ∷ cut qs x) (drop-at v w (s .len) f))
+    (ap (λ (x : Bytes). record { key = text (s .key); value = x } ∷ cut qs (drop (s .len) (v ++ w))) (take-at v w (s .len) f)
+    ∙ ap (λ (x : Bytes). record { key = text (s .key); value = v } ∷ cut qs x) (drop-at v w (s .len) f))
 
 pub total-append : (c d : Contents) → total (c ++ d) ≡ total c + total d
 unfolding total
@@ -94,7 +94,6 @@ lens-more ss i d h =
     ap lens (take-more ss i d h)
     ∙ lens-append (take i ss) (getD ss i d ∷ [])
     ∙ ap (λ n. lens (take i ss) + n) (add-zero ((getD ss i d) .len))
-
 
 -- the stored keys keep the rule of keys, and their length
 pub lawful-cut : (ss : List Slot) (row : Bytes) → Lawful (cut ss row)

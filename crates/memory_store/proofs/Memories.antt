@@ -64,13 +64,15 @@ renamed s s′ s″ r r′ r″ a b v w ok t there is out back =
   where
     same-put : put b w (tabled s′ r′) ≡ put b v (without (λ j. same j a) (tabled s r))
     same-put = ap (λ (x : Bytes). put b x (tabled s′ r′)) is ∙ ap (put b v) (out .contents)
+
     fits : ok ≡ true
     fits =
         let m = move-most a b (tabled s r) v (ordered _ _ (t .packed)) there in
         back .fits
         ∙ ap room same-put
         ∙ roomy _
-          (omega (arith, m .0, length-cut (vec-items s) (vec-items r), t .few, s .ok .0))
-          (omega (arith, m .1, whole _ _ (t .packed), t .small, r .ok .0))
+        (omega (arith, m .0, length-cut (vec-items s) (vec-items r), t .few, s .ok .0))
+        (omega (arith, m .1, whole _ _ (t .packed), t .small, r .ok .0))
+
     left : tabled s″ r″ ≡ moved a b (tabled s r)
     left = back .contents ∙ cond-true _ _ _ fits ∙ same-put ∙ sym (moved-some a b v (tabled s r) there)

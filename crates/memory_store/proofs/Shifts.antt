@@ -24,12 +24,12 @@ module _ (s t : List ℕ) (from by : ℕ) (long : length s ≡ length t) where
   up-back h high =
       ext-getD 0 _ _ (simp (length-take, length-drop) (omega arith))
       (λ k l.
-        let q : k < length t - (from + by) = omega (arith, length-drop (from + by) s) in
-        let e : from + by + k ≡ from + k + by = omega arith in
-        getD-drop (from + by) s k 0
-        ∙ ap (λ n. getD s n 0) e
-        ∙ high (from + k) (omega arith) (omega arith)
-        ∙ sym (getD-take _ (drop from t) k 0 q ∙ getD-drop from t k 0))
+      let q : k < length t - (from + by) = omega (arith, length-drop (from + by) s) in
+      let e : from + by + k ≡ from + k + by = omega arith in
+      getD-drop (from + by) s k 0
+      ∙ ap (λ n. getD s n 0) e
+      ∙ high (from + k) (omega arith) (omega arith)
+      ∙ sym (getD-take _ (drop from t) k 0 q ∙ getD-drop from t k 0))
 
   pub down :
       by ≤ from
@@ -41,13 +41,16 @@ module _ (s t : List ℕ) (from by : ℕ) (long : length s ≡ length t) where
     where
       front : length (take (from - by) t) ≡ from - by
       front = length-take (from - by) t ∙ omega arith
+
       sizes : length (take (length t - by) s) ≡ length (take (from - by) t ++ drop from t)
       sizes = simp (length-append, length-take, length-drop) (omega arith)
+
       places : (k : ℕ) → k < length (take (length t - by) s) → getD (take (length t - by) s) k 0 ≡ getD (take (from - by) t ++ drop from t) k 0
       places k l = getD-take (length t - by) s k 0 inside ∙ go (cases-lt k (from - by))
         where
           inside : k < length t - by
           inside = omega (arith, length-take (length t - by) s)
+
           go : (k < from - by) ⊎ (from - by ≤ k) → getD s k 0 ≡ getD (take (from - by) t ++ drop from t) k 0
           go (inl q) = low k q ∙ sym (getD-append-left (take (from - by) t) (drop from t) 0 k (omega (arith, front)) ∙ getD-take (from - by) t k 0 q)
           go (inr q) =
@@ -81,6 +84,7 @@ opened row value t s at h e is =
   where
     many : length (row ++ value) - (at + length value) ≡ length (drop at row)
     many = simp (length-append, length-drop) (omega arith)
+
     kept : take (length (row ++ value) - (at + length value)) (drop at (row ++ value)) ≡ drop at row
     kept = ap (take _) (drop-append-le at row value h) ∙ take-at (drop at row) value _ (sym many)
 

@@ -59,24 +59,24 @@ module _ (ss : List Slot) (row : Bytes) (i at : ℕ) (is : at ≡ lens (take i s
     unfolding lens
     put-fills =
         lens-append (take i ss) (s ∷ drop i ss)
-        ∙ omega
-          ( arith
-          , n
-          , front
-          , packed .fills
-          , lens-append (take i ss) (drop i ss)
-          , ap lens (take-append-drop i ss)
-          , length-append (take at row) (value ++ drop at row)
-          , length-append value (drop at row)
-          , length-append (take at row) (drop at row)
-          , ap length (take-append-drop at row)
-          )
+        ∙ omega (
+          arith,
+          n,
+          front,
+          packed .fills,
+          lens-append (take i ss) (drop i ss),
+          ap lens (take-append-drop i ss),
+          length-append (take at row) (value ++ drop at row),
+          length-append value (drop at row),
+          length-append (take at row) (drop at row),
+          ap length (take-append-drop at row),
+        )
 
     pub put-in : (ss′ : List Slot) (row′ : Bytes) → ss′ ≡ inserted ss i s → row′ ≡ take at row ++ (value ++ drop at row) → Packed ss′ row′ × (cut ss′ row′ ≡ put (text (s .key)) value (cut ss row))
-    put-in ss′ row′ e f =
-        ( record { ordered = ap (λ (x : List Slot). ascending (slotKeys x)) e ∙ put-ordered; fills = ap lens e ∙ put-fills ∙ ap length (sym f) }
-        , ap (λ (x : List Slot). cut x row′) e ∙ ap (cut (inserted ss i s)) f ∙ put-contents
-        )
+    put-in ss′ row′ e f = (
+      record { ordered = ap (λ (x : List Slot). ascending (slotKeys x)) e ∙ put-ordered; fills = ap lens e ∙ put-fills ∙ ap length (sym f) },
+      ap (λ (x : List Slot). cut x row′) e ∙ ap (cut (inserted ss i s)) f ∙ put-contents,
+    )
 
   module _ (s d : Slot) (within : i < length ss) (here : s ≡ getD ss i d) where
     parts : ss ≡ take i ss ++ s ∷ drop (i + 1) ss
@@ -133,8 +133,8 @@ module _ (ss : List Slot) (row : Bytes) (i at : ℕ) (is : at ≡ lens (take i s
     taken-contents =
         cut-append (take i ss) (drop (i + 1) ss) (take at row) (drop (at + s .len) row) front
         ∙ sym
-          (ap (without (λ j. same j (text (s .key)))) around
-           ∙ without-at (text (s .key)) _ (entry (text (s .key)) value) _ (gap-cut (text (s .key)) (take i ss) (drop (i + 1) ss) _ _ gap-here) refl)
+        (ap (without (λ j. same j (text (s .key)))) around
+        ∙ without-at (text (s .key)) _ (entry (text (s .key)) value) _ (gap-cut (text (s .key)) (take i ss) (drop (i + 1) ss) _ _ gap-here) refl)
 
     taken-ordered : ascending (slotKeys (take i ss ++ drop (i + 1) ss)) ≡ true
     taken-ordered =
@@ -144,25 +144,25 @@ module _ (ss : List Slot) (row : Bytes) (i at : ℕ) (is : at ≡ lens (take i s
     taken-fills : lens (take i ss ++ drop (i + 1) ss) ≡ length (take at row ++ drop (at + s .len) row)
     taken-fills =
         lens-append (take i ss) (drop (i + 1) ss)
-        ∙ omega
-          ( arith
-          , is
-          , sums
-          , front
-          , packed .fills
-          , length-append (take at row) (drop (at + s .len) row)
-          , length-drop (at + s .len) row
-          )
+        ∙ omega (
+          arith,
+          is,
+          sums,
+          front,
+          packed .fills,
+          length-append (take at row) (drop (at + s .len) row),
+          length-drop (at + s .len) row,
+        )
 
     pub take-out :
         (ss′ : List Slot) (row′ : Bytes)
         → ss′ ≡ take i ss ++ drop (i + 1) ss
         → row′ ≡ take at row ++ drop (at + s .len) row
         → Packed ss′ row′ × (cut ss′ row′ ≡ without (λ j. same j (text (s .key))) (cut ss row))
-    take-out ss′ row′ e f =
-        ( record { ordered = ap (λ (x : List Slot). ascending (slotKeys x)) e ∙ taken-ordered; fills = ap lens e ∙ taken-fills ∙ ap length (sym f) }
-        , ap (λ (x : List Slot). cut x row′) e ∙ ap (cut (take i ss ++ drop (i + 1) ss)) f ∙ taken-contents
-        )
+    take-out ss′ row′ e f = (
+      record { ordered = ap (λ (x : List Slot). ascending (slotKeys x)) e ∙ taken-ordered; fills = ap lens e ∙ taken-fills ∙ ap length (sym f) },
+      ap (λ (x : List Slot). cut x row′) e ∙ ap (cut (take i ss ++ drop (i + 1) ss)) f ∙ taken-contents,
+    )
 
 -- what is found in slots and row behind references
 pub found-behind : (ss xs : List Slot) (row ys : Bytes) (k : Bytes) (o : Option Bytes) → xs ≡ ss → ys ≡ row → o ≡ found k (cut xs ys) → found k (cut ss row) ≡ o

@@ -1,7 +1,7 @@
 //! A store in memory.
 
-pub mod memory_store;
 mod find;
+pub mod memory_store;
 mod row;
 mod slot;
 mod table;

@@ -5,7 +5,6 @@ ghost use mathlib.Core.Path.{_≡_};
 ghost use Prim.Native.Nat.{_+_, _<_, _≤_};
 ghost use lib.ListN.{length, getD, take, drop};
 ghost use Rattle.std.specs.Options.{mapped};
-
 ghost use Rattle.std.specs.Of.Vec.{vec-items, vec-len, vec-cap};
 ghost use Rattle.keys.specs.StoreKeys.{text};
 ghost use Rattle.keys.specs.StorePrefixes.{prefixText};
@@ -61,7 +60,10 @@ pub fn put_in(slots: &mut Vec<Slot>, row: &mut Vec<u8>, i: usize, key: &StoreKey
     let at = start_of(slots.as_slice(), i);
     insert_bytes(row, at, value);
     // the capacity suffices, so that this is no refusal
-    let slot = Slot { key: *key, len: value.len() };
+    let slot = Slot {
+        key: *key,
+        len: value.len(),
+    };
     let _ = slots.insert(i, slot);
 }
 
@@ -84,7 +86,13 @@ pub fn take_out(slots: &mut Vec<Slot>, row: &mut Vec<u8>, i: usize) -> Slot
 }
 
 /// Puts `value` under a key that is not there, at its place, if there is room; tells whether there is.
-fn insert_at(slots: &mut Vec<Slot>, row: &mut Vec<u8>, i: usize, key: &StoreKey, value: &[u8]) -> bool
+fn insert_at(
+    slots: &mut Vec<Slot>,
+    row: &mut Vec<u8>,
+    i: usize,
+    key: &StoreKey,
+    value: &[u8],
+) -> bool
     requires table { ⌜ Table (now slots) (now row) ⌝ }
     requires place { ⌜ GapAt (text (now key)) i (vec-items (now slots)) ⌝ ∗ ⌜ i ≤ vec-len (now slots) ⌝ }
     ensures { λ r. ⌜ Replaced r (text (now (key .entry))) (now (value .entry)) (now (slots .entry)) (now (slots .exit)) (now (row .entry)) (now (row .exit)) ⌝ }
@@ -100,7 +108,13 @@ fn insert_at(slots: &mut Vec<Slot>, row: &mut Vec<u8>, i: usize, key: &StoreKey,
 }
 
 /// Puts `value` under the key at `i`, in place of the value there, if there is room; tells whether there is.
-fn replace_at(slots: &mut Vec<Slot>, row: &mut Vec<u8>, i: usize, key: &StoreKey, value: &[u8]) -> bool
+fn replace_at(
+    slots: &mut Vec<Slot>,
+    row: &mut Vec<u8>,
+    i: usize,
+    key: &StoreKey,
+    value: &[u8],
+) -> bool
     requires table { ⌜ Table (now slots) (now row) ⌝ }
     requires place { ⌜ Placed (text (now key)) (vec-items (now slots)) (Ok i) ⌝ }
     ensures { λ r. ⌜ Replaced r (text (now (key .entry))) (now (value .entry)) (now (slots .entry)) (now (slots .exit)) (now (row .entry)) (now (row .exit)) ⌝ }

@@ -47,20 +47,17 @@ pub fn write_holds<S: ListableStorageTraits>(
     store: &S,
     out: &mut Vec<u8>,
     heap: Global,
-) -> Result<(), AllocError> {
-    let mut keys: u64 = 0;
+) -> Result<(), AllocError>
+    ensures { λ r. ⌜ made r (λ _. vec-items (now (out .exit)) ≡ vec-items (now (out .entry)) ++ holdsText (S·ReadableStorageTraits .contents (now (store .entry)))) ⌝ }
+{
+    let mut n: usize = 0;
     let mut bytes: u64 = 0;
-    for n in 0..usize::MAX {
-        let Some(key) = store.key_at(n) else {
-            break;
-        };
-        let size = match store.size_key(&key) {
-            Some(size) => size,
-            None => 0,
-        };
+    while let Some(key) = store.key_at(n) {
+        let size = store.size_key(&key).unwrap_or(0);
         write_entry_line(out, key.as_bytes(), size, heap)?;
-        keys = keys.saturating_add(1);
-        bytes = bytes.saturating_add(size);
+        bytes += size;
+        n += 1;
     }
-    write_total_line(out, keys, bytes, heap)
+    write_total_line(out, n as u64, bytes, heap)?;
+    Ok(())
 }

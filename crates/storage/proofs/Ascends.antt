@@ -97,6 +97,7 @@ after-without j t (e ∷ es) b = go (after-without j t es (h .1)) (t (e .key))
   where
     h : (earlier j (e .key) ≡ true) × (allAfter j (keysOf es) ≡ true)
     h = after-parts j (e .key) (keysOf es) b
+
     go : allAfter j (keysOf (without t es)) ≡ true → (d : Bool) → allAfter j (keysOf (elim d [ true ↦ without t es | false ↦ e ∷ without t es ])) ≡ true
     go ih true = ih
     go ih false = after-cons j (e .key) (keysOf (without t es)) (h .0) ih
@@ -108,6 +109,7 @@ ascending-without t (e ∷ es) a = go (ascending-without t es (h .1)) (t (e .key
   where
     h : (allAfter (e .key) (keysOf es) ≡ true) × (ascending (keysOf es) ≡ true)
     h = ascending-parts (e .key) (keysOf es) a
+
     go : Ascending (without t es) → (d : Bool) → Ascending (elim d [ true ↦ without t es | false ↦ e ∷ without t es ])
     go ih true = ih
     go ih false = ascending-cons (e .key) (keysOf (without t es)) (after-without (e .key) t es (h .0)) ih

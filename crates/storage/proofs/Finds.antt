@@ -54,6 +54,7 @@ found-put-same k v (e ∷ es) = go (found-put-same k v es) (same k (e .key)) (ea
   where
     new : Entry
     new = record { key = k; value = v }
+
     go : found k (put k v es) ≡ Some v → (b d : Bool) → same k (e .key) ≡ b → found k (elim b [ true ↦ new ∷ es | false ↦ elim d [ true ↦ new ∷ (e ∷ es) | false ↦ e ∷ put k v es ] ]) ≡ Some v
     go ih true d q = found-here k new es (eq-same k k refl)
     go ih false true q = found-here k new (e ∷ es) (eq-same k k refl)
@@ -66,6 +67,7 @@ found-put-other j k v (e ∷ es) ne = go (found-put-other j k v es ne) (same k (
   where
     new : Entry
     new = record { key = k; value = v }
+
     go : found j (put k v es) ≡ found j es → (b d : Bool) → same k (e .key) ≡ b → found j (elim b [ true ↦ new ∷ es | false ↦ elim d [ true ↦ new ∷ (e ∷ es) | false ↦ e ∷ put k v es ] ]) ≡ found j (e ∷ es)
     go ih true d q = found-skip j new es (ne-same j k ne) ∙ sym (found-skip j e es (ne-same j (e .key) (λ w. ne (w ∙ sym (same-true k (e .key) q)))))
     go ih false true q = found-skip j new (e ∷ es) (ne-same j k ne)

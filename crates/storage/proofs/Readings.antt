@@ -38,7 +38,7 @@ whole-answer None space = refl
 whole-answer (Some b) space =
     ap (λ (x : Bytes). answered (readNo b whole space 1) (Some (length x))) (items-whole b)
     ∙ ap (λ (q : Option Refusal). answered q (Some (length b)))
-      (last-room (room space (length (items b whole))) ∙ ap (λ (x : Bytes). room space (length x)) (items-whole b))
+    (last-room (room space (length (items b whole))) ∙ ap (λ (x : Bytes). room space (length x)) (items-whole b))
 
 whole-bytes : (v : Option Bytes) → readBytes v whole ≡ bytesOf v
 whole-bytes None = refl
@@ -46,7 +46,7 @@ whole-bytes (Some b) = items-whole b
 
 pub value-read : (n : ℕ) (v : Option Bytes) (r : Result (Option ℕ) Fault) (out out′ : Bytes) (notes notes′ : List Note) → length notes ≡ 1 → RangesRead n v whole r out out′ notes notes′ → ValueRead n v r out out′
 value-read n v r out out′ notes notes′ one h =
-    record
-    { answer = h .answer ∙ ap (λ m. deepened n (readAnswer v whole (length out) m)) one ∙ ap (deepened n) (whole-answer v (length out))
-    ; output = h .output ∙ ap (λ (x : Bytes). cond (isOk r) (fronted x out) out) (whole-bytes v)
+    record {
+      answer = h .answer ∙ ap (λ m. deepened n (readAnswer v whole (length out) m)) one ∙ ap (deepened n) (whole-answer v (length out));
+      output = h .output ∙ ap (λ (x : Bytes). cond (isOk r) (fronted x out) out) (whole-bytes v);
     }

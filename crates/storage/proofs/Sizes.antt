@@ -39,6 +39,7 @@ put-absent k v (e ∷ es) a n = go (put-absent k v es (parts .1)) (where-is k e)
   where
     parts : (allAfter (e .key) (keysOf es) ≡ true) × (ascending (keysOf es) ≡ true)
     parts = ascending-parts (e .key) (keysOf es) a
+
     go : (found k es ≡ None → (length (put k v es) ≡ length es + 1) × (total (put k v es) ≡ total es + length v)) → Where k e → (length (put k v (e ∷ es)) ≡ length (e ∷ es) + 1) × (total (put k v (e ∷ es)) ≡ total (e ∷ es) + length v)
     go rest (at p) = none-some (sym n ∙ found-here k e es p)
     go rest (before p q) =
@@ -57,6 +58,7 @@ put-present k v (e ∷ es) b a n = go (put-present k v es b (parts .1)) (where-i
   where
     parts : (allAfter (e .key) (keysOf es) ≡ true) × (ascending (keysOf es) ≡ true)
     parts = ascending-parts (e .key) (keysOf es) a
+
     go : (found k es ≡ Some b → (length (put k v es) ≡ length es) × (total (put k v es) + length b ≡ total es + length v)) → Where k e → (length (put k v (e ∷ es)) ≡ length (e ∷ es)) × (total (put k v (e ∷ es)) + length b ≡ total (e ∷ es) + length v)
     go rest (at p) =
         let over = put-over k v e es (sym (same-true k (e .key) p)) in
@@ -77,6 +79,7 @@ put-again k v (e ∷ es) a = go (put-again k v es (parts .1)) (where-is k e)
   where
     parts : (allAfter (e .key) (keysOf es) ≡ true) × (ascending (keysOf es) ≡ true)
     parts = ascending-parts (e .key) (keysOf es) a
+
     go : put k v (without (λ j. same j k) es) ≡ put k v es → Where k e → put k v (without (λ j. same j k) (e ∷ es)) ≡ put k v (e ∷ es)
     go ih (at p) =
         let is = same-true k (e .key) p in

@@ -43,9 +43,9 @@ found k (e ∷ es) = elim (same k (e .key)) [ true ↦ Some (e .value) | false �
 unfoldable pub put : Bytes → Bytes → Contents → Contents
 put k v [] = record { key = k; value = v } ∷ []
 put k v (e ∷ es) =
-    elim (same k (e .key))
-    [ true ↦ record { key = k; value = v } ∷ es
-    | false ↦ elim (earlier k (e .key)) [ true ↦ record { key = k; value = v } ∷ (e ∷ es) | false ↦ e ∷ put k v es ]
+    elim (same k (e .key)) [
+      | true ↦ record { key = k; value = v } ∷ es
+      | false ↦ elim (earlier k (e .key)) [ true ↦ record { key = k; value = v } ∷ (e ∷ es) | false ↦ e ∷ put k v es ]
     ]
 
 unfoldable pub without : (Bytes → Bool) → Contents → Contents

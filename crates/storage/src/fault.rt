@@ -3,10 +3,10 @@ ghost use mathlib.Core.Path.{_≡_};
 ghost use Rattle.extraction.specs.Extracts.{extractRefusal};
 ghost use Rattle.patches.specs.Patches.{patchRefusal};
 ghost use Rattle.storage.specs.Faults.{number, own, ownAt, raised, atStep, fromKey, fromRange, faultOf};
-use keys::store_key::StoreKeyError;
-use ranges::byte_range::InvalidByteRangeError;
 use extraction::ExtractError;
+use keys::store_key::StoreKeyError;
 use patches::PatchError;
+use ranges::byte_range::InvalidByteRangeError;
 
 /// Why a call was refused. The definition `number` gives each case its number.
 #[derive(Clone, Copy)]

@@ -12,9 +12,9 @@ ghost use Rattle.storage.specs.Readings.{RangesRead};
 ghost use Rattle.storage.specs.Writes.{Write, rename};
 ghost use Rattle.storage.specs.declared.fault.Fault.{Fault};
 use crate::fault::Fault;
+use extraction::Note;
 use keys::store_key::StoreKey;
 use ranges::byte_range::ByteRange;
-use extraction::Note;
 
 pub mod writes;
 
@@ -60,4 +60,3 @@ pub trait ReadableStorageTraits {
     fn supports_get_partial(&self) -> bool
         ensures { λ r. ⌜ r ≡ true ⌝ };
 }
-

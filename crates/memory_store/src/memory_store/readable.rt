@@ -1,11 +1,11 @@
 ghost use mathlib.Core.Bool.{true};
 ghost use Rattle.memory_store.specs.Memory.{holds, ruling};
 use super::MemoryStore;
-use keys::store_key::StoreKey;
-use ranges::byte_range::ByteRange;
 use extraction::MAX_RANGES;
 use extraction::Note;
 use extraction::read_byte_ranges;
+use keys::store_key::StoreKey;
+use ranges::byte_range::ByteRange;
 use storage::fault::Cause;
 use storage::fault::Fault;
 use storage::fault::FaultFromExtractError;
@@ -14,9 +14,13 @@ use storage::storage_sync::writes::ListableStorageTraits;
 
 pub impl ReadableStorageTraits for MemoryStore as MemoryStoreReadable {
     ghost contents = { holds };
+
     ghost verdict = { λ m w. ruling (holds m) w };
+
     ghost tidy = { true };
+
     ghost inplace = { true };
+
     ghost layers = { 0 };
 
     fn size_key(&self, key: &StoreKey) -> Option<u64> {

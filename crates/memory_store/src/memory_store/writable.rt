@@ -41,7 +41,12 @@ pub impl AtomicRenameStorageTraits for MemoryStore as MemoryStoreRename {
         };
         remove(&mut self.slots, &mut self.row, source);
         // as many bytes are free as are put, so that there is room
-        replace(&mut self.slots, &mut self.row, destination, &self.spare.as_slice()[0..n]);
+        replace(
+            &mut self.slots,
+            &mut self.row,
+            destination,
+            &self.spare.as_slice()[0..n],
+        );
         Ok(())
     }
 }

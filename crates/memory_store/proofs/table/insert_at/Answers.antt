@@ -24,15 +24,15 @@ returns c =
     let ss = c .args .slots .now in
     let row = c .args .row .now in
     let n = sizes-absent _ _ (c .pre .table .packed) _ (c .args .value .now) (absent-there _ _ (c .args .i) _ refl (c .pre .table .packed) _ (c .pre .place .0)) in
-    record
-    { table =
-        record
-        { packed = c .put-in .ensures .packed
-        ; few = omega arith
-        ; small = omega arith
-        ; slotsReserved = omega arith
-        ; rowReserved = omega arith
-        }
-    ; fits = sym (roomy _ (omega (arith, n .0, ss .ok .0)) (omega (arith, n .1, row .ok .0)))
-    ; contents = c .put-in .ensures .contents
+    record {
+      table =
+          record {
+            packed = c .put-in .ensures .packed;
+            few = omega arith;
+            small = omega arith;
+            slotsReserved = omega arith;
+            rowReserved = omega arith;
+          };
+      fits = sym (roomy _ (omega (arith, n .0, ss .ok .0)) (omega (arith, n .1, row .ok .0)));
+      contents = c .put-in .ensures .contents;
     }

@@ -20,11 +20,11 @@ pub returns : need.returns
 returns c =
     let there = found-behind _ _ _ _ _ _ (c .as-slice .ensures .value) (c .as-slice-2 .ensures .value) (c .in-Continue-value .ensures tt) in
     let n = found-most _ _ _ (ordered _ _ (c .pre .0 .packed)) there in
-    record
-    { cases =
-        ( there
-          ∙ ap Some (sym (ap (take (c .copy-front .result)) (refilled _ _ _ (c .copy-front .kept .out ∙ c .as-mut-slice .ensures .len)) ∙ c .copy-front .ensures .front))
-        , omega (arith, n, whole _ _ (c .pre .0 .packed), c .args .row .now .ok .0)
-        )
-    ; len = search needs
+    record {
+      cases = (
+        there
+            ∙ ap Some (sym (ap (take (c .copy-front .result)) (refilled _ _ _ (c .copy-front .kept .out ∙ c .as-mut-slice .ensures .len)) ∙ c .copy-front .ensures .front)),
+        omega (arith, n, whole _ _ (c .pre .0 .packed), c .args .row .now .ok .0),
+      );
+      len = search needs;
     }

@@ -15,16 +15,16 @@ pub returns-in-Ok : need.returns-in-Ok
 returns-in-Ok c =
     let there = c .take-out .ensures .value ∙ ap (λ (xs : List Slot). getD xs (c .in-Ok .i) (c .take-out .result)) (sym (c .as-slice .ensures .value)) in
     let key = c .in-Ok .ensures tt .1 (c .take-out .result) there in
-    record
-    { table =
-        record
-        { packed = c .take-out .ensures .packed
-        ; few = omega arith
-        ; small = omega arith
-        ; slotsReserved = omega arith
-        ; rowReserved = omega arith
-        }
-    ; contents = c .take-out .ensures .contents ∙ ap (λ (k : Bytes). without (λ j. same j k) (tabled (c .args .slots .now) (c .args .row .now))) key
+    record {
+      table =
+          record {
+            packed = c .take-out .ensures .packed;
+            few = omega arith;
+            small = omega arith;
+            slotsReserved = omega arith;
+            rowReserved = omega arith;
+          };
+      contents = c .take-out .ensures .contents ∙ ap (λ (k : Bytes). without (λ j. same j k) (tabled (c .args .slots .now) (c .args .row .now))) key;
     }
 
 pub returns-in-rest : need.returns-in-rest

@@ -29,18 +29,18 @@ returns c =
     let n = sizes-at _ _ (c .pre .table .packed) (c .args .i) _ _ _ (c .args .value .now) (c .pre .place .0) (c .index .ensures) (c .pre .place .1 _ (c .index .ensures)) in
     let m = sizes-at _ _ (c .pre .table .packed) (c .args .i) _ _ _ (c .args .value .now) (c .pre .place .0) (c .take-out .ensures .value) (c .pre .place .1 _ (c .take-out .ensures .value)) in
     let key = c .pre .place .1 _ (c .take-out .ensures .value) in
-    record
-    { table =
-        record
-        { packed = c .put-in .ensures .packed
-        ; few = omega arith
-        ; small = omega (arith, n .1, m .1, row .ok .0)
-        ; slotsReserved = omega arith
-        ; rowReserved = omega arith
-        }
-    ; fits = sym (roomy _ (omega (arith, n .0, ss .ok .0)) (omega (arith, n .1, row .ok .0)))
-    ; contents =
-        c .put-in .ensures .contents
-        ∙ ap (put _ _) (c .take-out .ensures .contents ∙ ap (λ (k : Bytes). without (λ j. same j k) (tabled ss row)) key)
-        ∙ put-again _ _ _ (ordered _ _ (c .pre .table .packed))
+    record {
+      table =
+          record {
+            packed = c .put-in .ensures .packed;
+            few = omega arith;
+            small = omega (arith, n .1, m .1, row .ok .0);
+            slotsReserved = omega arith;
+            rowReserved = omega arith;
+          };
+      fits = sym (roomy _ (omega (arith, n .0, ss .ok .0)) (omega (arith, n .1, row .ok .0)));
+      contents =
+          c .put-in .ensures .contents
+          ∙ ap (put _ _) (c .take-out .ensures .contents ∙ ap (λ (k : Bytes). without (λ j. same j k) (tabled ss row)) key)
+          ∙ put-again _ _ _ (ordered _ _ (c .pre .table .packed));
     }

@@ -11,11 +11,11 @@ loop-j-holds c = refl
 
 pub add-at : need.add-at
 add-at c =
-    omega
-    ( arith
-    , c .loop-j .inv
-    , lens-more (c .args .slots .now) (c .loop-j .j) (c .index-slots-j .result) (omega arith)
-    , lens-take (c .args .slots .now) (c .loop-j .j + 1)
+    omega (
+      arith,
+      c .loop-j .inv,
+      lens-more (c .args .slots .now) (c .loop-j .j) (c .index-slots-j .result) (omega arith),
+      lens-take (c .args .slots .now) (c .loop-j .j + 1),
     )
 
 pub loop-j-again : need.loop-j-again

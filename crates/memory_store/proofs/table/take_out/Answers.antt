@@ -21,12 +21,12 @@ returns c =
     let here = c .remove-slot .ensures .value in
     let left = c .remove-slot .ensures .places .2 in
     let both = take-out _ _ (c .args .i) _ at (c .pre .packed .0) (c .remove-slot .result) _ within here _ _ left (c .remove-bytes .ensures .items) in
-    record
-    { value = here
-    ; slots = left
-    ; packed = both .0
-    ; contents = both .1
-    ; place = gap-there _ _ (c .args .i) _ at (c .pre .packed .0) (c .remove-slot .result) _ within here _ left
-    ; sizes = (search needs, search needs)
-    ; capacity = (search needs, search needs)
+    record {
+      value = here;
+      slots = left;
+      packed = both .0;
+      contents = both .1;
+      place = gap-there _ _ (c .args .i) _ at (c .pre .packed .0) (c .remove-slot .result) _ within here _ left;
+      sizes = (search needs, search needs);
+      capacity = (search needs, search needs);
     }

@@ -11,8 +11,8 @@ laws g = record { total = g .T·TotalOrder·met .total; transitive = g .T·Total
 
 pub returns-in-Ok : need.returns-in-Ok
 returns-in-Ok g c = (
-  c .if-len-items .left,
-  λ up. holding-same (g .T·TotalOrder .compared) (c .args .items .now) (c .args .len) (c .in-Ok .field-0) (c .args .x) (c .if-len-items .left) (c .in-Ok .ensures tt .0) (c .in-Ok .ensures tt .1) up,
+  omega arith,
+  λ up. holding-same (g .T·TotalOrder .compared) (c .args .items .now) (c .args .len) (c .in-Ok .field-0) (c .args .x) (omega arith) (c .in-Ok .ensures tt .0) (c .in-Ok .ensures tt .1) up,
   inl (refl, refl),
 )
 
@@ -25,7 +25,7 @@ returns-then-len-items-2 g c = (
 
 pub returns : need.returns
 returns g c = (
-  c .if-len-items .left,
-  λ up. holding-added (laws g) (c .args .items .now) (c .args .len) (c .in-Err .place) (c .args .x) (c .if-len-items .left) (c .in-Err .ensures tt) up (c .put .last .items) (omega arith) (c .put .ensures),
+  omega arith,
+  λ up. holding-added (laws g) (c .args .items .now) (c .args .len) (c .in-Err .place) (c .args .x) (omega arith) (c .in-Err .ensures tt) up (c .put .last .items) (omega arith) (c .put .ensures),
   inr (c .in-Err .place, c .in-Err .ensures tt .0, omega arith, refl, c .put .ensures),
 )

@@ -18,11 +18,11 @@ pub sound-law : need.sound-law
 sound-law m =
     let ss = vec-items (m .slots) in
     let row = vec-items (m .row) in
-    record
-    { ascends = ap ascending (keysOf-cut ss row) ∙ m .ordered
-    ; lawful = lawful-cut ss row
-    ; few = omega (arith, length-cut ss row, m .few, m .slots .ok .0)
-    ; small = omega (arith, total-cut ss row (omega (arith, packed m .fills)), packed m .fills, m .small, m .row .ok .0)
+    record {
+      ascends = ap ascending (keysOf-cut ss row) ∙ m .ordered;
+      lawful = lawful-cut ss row;
+      few = omega (arith, length-cut ss row, m .few, m .slots .ok .0);
+      small = omega (arith, total-cut ss row (omega (arith, packed m .fills)), packed m .fills, m .small, m .row .ok .0);
     }
 
 pub absent-law : need.absent-law
