@@ -4,7 +4,7 @@ ghost use Prim.Native.Nat.{_+_, _≤_};
 ghost use lib.ListN.{length, drop};
 
 /// Writes `front` and then `back` to the beginning of `out`.
-pub fn lay(out: &mut [u8], front: &[u8], back: &[u8])
+pub(crate) fn lay(out: &mut [u8], front: &[u8], back: &[u8])
     requires { ⌜ length (now front) + length (now back) ≤ length (now out) ⌝ }
     ensures { λ _. ⌜ now (out .exit) ≡ (now (front .entry) ++ now (back .entry)) ++ drop (length (now (front .entry)) + length (now (back .entry))) (now (out .entry)) ⌝ }
 {

@@ -13,7 +13,7 @@ use order::total_order::TotalOrder;
 use std::cmp::Ordering;
 
 /// The index of the key, or its place where it is not there, by bisection.
-pub fn find(slots: &[Slot], key: &StoreKey) -> Result<usize, usize>
+pub(crate) fn find(slots: &[Slot], key: &StoreKey) -> Result<usize, usize>
     requires { ⌜ ascending (slotKeys (now slots)) ≡ true ⌝ }
     ensures { λ r. ⌜ Placed (text (now (key .entry))) (now (slots .entry)) r ⌝ }
 {

@@ -39,7 +39,7 @@ fn open_at(s: &mut [u8], at: usize, value: &[u8])
 }
 
 /// Puts `value` in before the byte at `at`, where the row has the capacity.
-pub fn insert_bytes(row: &mut Vec<u8>, at: usize, value: &[u8])
+pub(crate) fn insert_bytes(row: &mut Vec<u8>, at: usize, value: &[u8])
     requires within { ⌜ at ≤ vec-len (now row) ⌝ }
     requires room { ⌜ vec-len (now row) + length (now value) ≤ vec-cap (now row) ⌝ }
     ensures items { λ _. ⌜ vec-items (now (row .exit)) ≡ take at (vec-items (now (row .entry))) ++ (now (value .entry) ++ drop at (vec-items (now (row .entry)))) ⌝ }
@@ -52,7 +52,7 @@ pub fn insert_bytes(row: &mut Vec<u8>, at: usize, value: &[u8])
 }
 
 /// Takes the `n` bytes from `at` on out.
-pub fn remove_bytes(row: &mut Vec<u8>, at: usize, n: usize)
+pub(crate) fn remove_bytes(row: &mut Vec<u8>, at: usize, n: usize)
     requires { ⌜ at + n ≤ vec-len (now row) ⌝ }
     ensures items { λ _. ⌜ vec-items (now (row .exit)) ≡ take at (vec-items (now (row .entry))) ++ drop (at + n) (vec-items (now (row .entry))) ⌝ }
     ensures len { λ _. ⌜ vec-len (now (row .exit)) + n ≡ vec-len (now (row .entry)) ⌝ }

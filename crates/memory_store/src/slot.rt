@@ -2,7 +2,7 @@ use keys::store_key::StoreKey;
 
 /// A stored key with the length of its value.
 #[derive(Clone, Copy)]
-pub struct Slot {
-    pub key: StoreKey,
-    pub len: usize,
+pub(crate) struct Slot {
+    pub(crate) key: StoreKey,
+    pub(crate) len: usize,
 }

@@ -22,7 +22,7 @@ use keys::store_key::StoreKey;
 use keys::store_prefix::StorePrefix;
 
 /// Where the value of slot `i` begins in the row.
-pub fn start_of(slots: &[Slot], i: usize) -> usize
+pub(crate) fn start_of(slots: &[Slot], i: usize) -> usize
     requires within { ⌜ i ≤ length (now slots) ⌝ }
     requires fits { ⌜ lens (now slots) ≤ 32768 ⌝ }
     ensures { λ r. ⌜ r ≡ lens (take i (now (slots .entry))) ⌝ }
@@ -35,7 +35,7 @@ pub fn start_of(slots: &[Slot], i: usize) -> usize
 }
 
 /// The value under `key`.
-pub fn value_of<'a>(slots: &[Slot], row: &'a [u8], key: &StoreKey) -> Option<&'a [u8]>
+pub(crate) fn value_of<'a>(slots: &[Slot], row: &'a [u8], key: &StoreKey) -> Option<&'a [u8]>
     requires { ⌜ Packed (now slots) (now row) ⌝ ∗ ⌜ length (now row) ≤ 32768 ⌝ }
     ensures { λ r. ⌜ mapped now r ≡ found (text (now (key .entry))) (cut (now (slots .entry)) (now (row .entry))) ⌝ }
 {
@@ -48,7 +48,13 @@ pub fn value_of<'a>(slots: &[Slot], row: &'a [u8], key: &StoreKey) -> Option<&'a
 }
 
 /// Puts a key that is not there in at its place `i`, with its value.
-pub fn put_in(slots: &mut Vec<Slot>, row: &mut Vec<u8>, i: usize, key: &StoreKey, value: &[u8])
+pub(crate) fn put_in(
+    slots: &mut Vec<Slot>,
+    row: &mut Vec<u8>,
+    i: usize,
+    key: &StoreKey,
+    value: &[u8],
+)
     requires packed { ⌜ Packed (vec-items (now slots)) (vec-items (now row)) ⌝ }
     requires place { ⌜ GapAt (text (now key)) i (vec-items (now slots)) ⌝ ∗ ⌜ i ≤ vec-len (now slots) ⌝ }
     requires room { ⌜ vec-len (now slots) < vec-cap (now slots) ⌝ ∗ ⌜ vec-len (now row) + length (now value) ≤ vec-cap (now row) ⌝ ∗ ⌜ vec-len (now row) ≤ 32768 ⌝ }
@@ -68,7 +74,7 @@ pub fn put_in(slots: &mut Vec<Slot>, row: &mut Vec<u8>, i: usize, key: &StoreKey
 }
 
 /// Takes the key at `i` out, with its value.
-pub fn take_out(slots: &mut Vec<Slot>, row: &mut Vec<u8>, i: usize) -> Slot
+pub(crate) fn take_out(slots: &mut Vec<Slot>, row: &mut Vec<u8>, i: usize) -> Slot
     requires packed { ⌜ Packed (vec-items (now slots)) (vec-items (now row)) ⌝ ∗ ⌜ vec-len (now row) ≤ 32768 ⌝ }
     requires within { ⌜ i < vec-len (now slots) ⌝ }
     ensures value { λ r. ⌜ r ≡ getD (vec-items (now (slots .entry))) i r ⌝ }
@@ -129,7 +135,12 @@ fn replace_at(
 }
 
 /// Puts `value` under `key`, in place of the value there, if there is room; tells whether there is.
-pub fn replace(slots: &mut Vec<Slot>, row: &mut Vec<u8>, key: &StoreKey, value: &[u8]) -> bool
+pub(crate) fn replace(
+    slots: &mut Vec<Slot>,
+    row: &mut Vec<u8>,
+    key: &StoreKey,
+    value: &[u8],
+) -> bool
     requires { ⌜ Table (now slots) (now row) ⌝ }
     ensures { λ r. ⌜ Replaced r (text (now (key .entry))) (now (value .entry)) (now (slots .entry)) (now (slots .exit)) (now (row .entry)) (now (row .exit)) ⌝ }
 {
@@ -140,7 +151,7 @@ pub fn replace(slots: &mut Vec<Slot>, row: &mut Vec<u8>, key: &StoreKey, value: 
 }
 
 /// Takes `key` out, if it is there.
-pub fn remove(slots: &mut Vec<Slot>, row: &mut Vec<u8>, key: &StoreKey)
+pub(crate) fn remove(slots: &mut Vec<Slot>, row: &mut Vec<u8>, key: &StoreKey)
     requires { ⌜ Table (now slots) (now row) ⌝ }
     ensures { λ _. ⌜ Removed (λ j. same j (text (now (key .entry)))) (now (slots .entry)) (now (slots .exit)) (now (row .entry)) (now (row .exit)) ⌝ }
 {
@@ -150,7 +161,7 @@ pub fn remove(slots: &mut Vec<Slot>, row: &mut Vec<u8>, key: &StoreKey)
 }
 
 /// Takes every key out that begins with the prefix.
-pub fn remove_prefix(slots: &mut Vec<Slot>, row: &mut Vec<u8>, prefix: &StorePrefix)
+pub(crate) fn remove_prefix(slots: &mut Vec<Slot>, row: &mut Vec<u8>, prefix: &StorePrefix)
     requires { ⌜ Table (now slots) (now row) ⌝ }
     ensures { λ _. ⌜ Removed (under (prefixText (now (prefix .entry)))) (now (slots .entry)) (now (slots .exit)) (now (row .entry)) (now (row .exit)) ⌝ }
 {
@@ -165,7 +176,12 @@ pub fn remove_prefix(slots: &mut Vec<Slot>, row: &mut Vec<u8>, prefix: &StorePre
 }
 
 /// Copies the value under `key` to the front of `spare`, and answers its length.
-pub fn kept(slots: &Vec<Slot>, row: &Vec<u8>, key: &StoreKey, spare: &mut Vec<u8>) -> Option<usize>
+pub(crate) fn kept(
+    slots: &Vec<Slot>,
+    row: &Vec<u8>,
+    key: &StoreKey,
+    spare: &mut Vec<u8>,
+) -> Option<usize>
     requires { ⌜ Table (now slots) (now row) ⌝ ∗ ⌜ vec-len (now spare) ≡ 32768 ⌝ }
     ensures cases { λ r. ⌜ Kept r (found (text (now (key .entry))) (tabled (now (slots .entry)) (now (row .entry)))) (now (spare .exit)) ⌝ }
     ensures len { λ _. ⌜ vec-len (now (spare .exit)) ≡ 32768 ⌝ }
