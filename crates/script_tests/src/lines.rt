@@ -52,7 +52,7 @@ fn values_are_read(rt: LibcRuntime) -> Result<(), Fail> {
     says(
         heap,
         b"export a \"say \"hi\" \" ",
-        b"export a x73617920226869222020",
+        b"export a x736179202268692220",
     )?;
     says(heap, b"export a/b \" \"", b"export a/b \" \"")
 }

@@ -1,6 +1,7 @@
 //! How answers are written.
 use keys::store_key::StoreKey;
 use script::command::Command;
+use script::command::parse;
 use script::value::Value;
 use std::alloc::AllocError;
 use std::alloc::Global;
@@ -87,22 +88,22 @@ fn two_keys(heap: Global, bytes: &[u8]) -> Result<Vec<StoreKey>, AllocError> {
     Ok(keys)
 }
 
+/// The line for a listing.
+fn listed(heap: Global, answer: &Answer, what: &[u8]) -> Result<(), Fail> {
+    let mut out = Vec::new(heap);
+    if let Ok(Some(command)) = parse(b"list") {
+        write_call_line(&mut out, 12, &command, answer, heap)?;
+    }
+    check(out.as_slice() == what)
+}
+
 #[test]
 fn listings(rt: LibcRuntime) -> Result<(), Fail> {
     let heap = rt.alloc();
-    answered(
-        heap,
-        Command::List,
-        Answer::Keys(Vec::new(heap)),
-        b"12 list: 0 keys\n",
-    )?;
-    let keys = two_keys(heap, b"a/b")?;
-    answered(
-        heap,
-        Command::List,
-        Answer::Keys(keys),
-        b"12 list: 2 keys \"\" a/b\n",
-    )
+    let none = Answer::Keys(Vec::new(heap));
+    listed(heap, &none, b"12 list: 0 keys\n")?;
+    let keys = Answer::Keys(two_keys(heap, b"a/b")?);
+    listed(heap, &keys, b"12 list: 2 keys \"\" a/b\n")
 }
 
 #[test]

@@ -1,4 +1,4 @@
-use mathlib.Core.Path.{_≡_, refl, sym, ap, _∙_}
+use mathlib.Core.Path.{ap, _∙_}
 use mathlib.Core.List.{_++_}
 use native.Mathlib.Omega.{arith}
 use Rattle.std.specs.Of.Vec.{vec-items}
@@ -7,9 +7,6 @@ use Rattle.transcript.specs.Answers.{entryLine}
 use Rattle.keys.specs.StoreKeys.{text}
 use Rattle.session.proofs.Holds.{here, sum-fits, one-line, all-lines}
 use Rattle.session.proofs.run.write_holds.Needs as need
-
-pub loop-key-holds : need.loop-key-holds
-loop-key-holds g c = record { within = omega arith; lines = refl; sum = omega arith }
 
 pub loop-key-less : need.loop-key-less
 loop-key-less g c = omega (arith, here (g .S·ReadableStorageTraits .contents (c .args .store .now)) (c .loop-key .n) (text (c .in-Some .key)) (c .in-Some .ensures tt))

@@ -1,0 +1,3 @@
+//! Layers over a store: each is a store again.
+
+pub mod countdown;

@@ -1,0 +1,6 @@
+//! Tests of stores, layers and exports.
+
+#[cfg(test)]
+mod exports;
+#[cfg(test)]
+mod memory;
