@@ -27,6 +27,12 @@ impl ReadList {
     pub fn add(&mut self, range: ByteRange) -> Result<(), SortedListError>
         ensures { λ r. ⌜ Added (reads (now (self .entry))) range (reads (now (self .exit))) r ⌝ }
     {
+        self.insert(range)
+    }
+
+    fn insert(&mut self, range: ByteRange) -> Result<(), SortedListError>
+        ensures { λ r. ⌜ Added (reads (now (self .entry))) range (reads (now (self .exit))) r ⌝ }
+    {
         self.len = insert_sorted(&mut self.ranges, self.len, range)?;
         Ok(())
     }

@@ -5,7 +5,7 @@ use Rattle.std.proofs.shelf.Lawful.{test-from-sorted}
 use Rattle.std.proofs.shelf.Results.{err-from-errBy}
 use Rattle.ranges.specs.Orders.{compareRanges}
 use Rattle.ranges.proofs.ReadLists.{held, joined-from, refused-from}
-use Rattle.ranges.proofs.read_list.ReadList.add.Needs as need
+use Rattle.ranges.proofs.read_list.ReadList.insert.Needs as need
 
 pub returns-in-Break-self : need.returns-in-Break-self
 returns-in-Break-self c =
