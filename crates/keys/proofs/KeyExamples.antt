@@ -1,7 +1,7 @@
 -- The examples of keys and prefixes hold.
 use Rattle.std.proofs.Common.{◌≡◌, ◌+◌, ◌≤◌, [], ◌∷◌, length, get_or, Ok, Err, sym, refl, ap, ◌∙◌, inl, inr, arith}
 use Rattle.std.proofs.lemmas.Bool.{cases_eq}
-use Rattle.keys.specs.Text.{Bytes, slash, KeyText, PrefixText}
+use Rattle.keys.specs.Text.{Bytes, KeyText, PrefixText}
 use Rattle.keys.specs.KeyExamples.{KeyExamples, NoKey, NoPrefix}
 use Rattle.keys.specs.declared.store_key.StoreKeyError as key-error
 use Rattle.keys.specs.declared.store_prefix.StorePrefixError as prefix-error

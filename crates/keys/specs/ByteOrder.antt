@@ -1,5 +1,4 @@
 -- The order of texts, by unsigned bytes.
-use Rattle.std.specs.Cmp.{nat_cmp_total}
 use Rattle.std.specs.Cmp.Lexicographic.{slice_cmp}
 use Rattle.std.specs.declared.cmp.Ordering.{Ordering}
 use Rattle.keys.specs.Text.{Bytes}

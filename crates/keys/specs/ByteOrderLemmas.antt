@@ -1,11 +1,10 @@
 -- The laws of the order of texts.
-use Rattle.std.specs.Prelude.{◌≡◌, ℕ, ◌<◌, [], ◌∷◌, ◌++◌, refl}
+use Rattle.std.specs.Prelude.{◌≡◌, ℕ, [], ◌∷◌, ◌++◌, refl}
 use Rattle.std.specs.declared.cmp.Ordering.TheVariants.{Less, Equal}
-use Rattle.std.specs.declared.cmp.Ordering.{Ordering}
 use Rattle.std.proofs.Common.{ap, ◌∙◌, true≢false}
 use Rattle.std.specs.Cmp.{nat_cmp_total}
-use Rattle.std.specs.Cmp.Lexicographic.{Lex, slice_cmp, lex-says, lists_total}
-use Rattle.std.specs.Ordering.{MatchOrdering, ordering_then, is_lt, is_gt, nat_cmp}
+use Rattle.std.specs.Cmp.Lexicographic.{slice_cmp, lists_total}
+use Rattle.std.specs.Ordering.{ordering_then, is_lt, is_gt, nat_cmp}
 use Rattle.order.specs.Orders.{Lawful}
 use Rattle.order.proofs.Orders.{itself, numbers_lawful, first_equal, second_equal}
 use Rattle.keys.specs.Text.{Bytes}
@@ -23,11 +22,6 @@ lex_equal (x ∷ a) (y ∷ b) e =
 pub bytes_lawful : Lawful compare_bytes
 unfolding compare_bytes
 bytes_lawful = record { total = (lists_total nat_cmp_total).antisymm; transitive = (lists_total nat_cmp_total).trans; equal = lex_equal }
-
--- what `cmp` on slices of bytes answers
-pub compare_from_lex : (a b : Bytes) (r : Ordering) → Lex (λ (x y : ℕ) (k : Ordering). MatchOrdering k (x < y) (x ≡ y) (y < x)) a b r → r ≡ compare_bytes a b
-unfolding compare_bytes
-compare_from_lex a b r h = lex-says nat_cmp_total a b r h
 
 -- a common front decides nothing
 pub compare_front : (p a b : Bytes) → compare_bytes (p ++ a) (p ++ b) ≡ compare_bytes a b

@@ -6,7 +6,7 @@ use Rattle.std.proofs.Math.Nat.{ℕ_set}
 use Rattle.std.proofs.lemmas.List.{take-append-drop, drop_more, drop_all, get_or_at, get_or-append-add, get_or_append_left, get_or-append_right, nil_from_length, take_at, take-append-le, length_push, same_from_push}
 use Rattle.std.proofs.lemmas.Bool.{cases_eq, cases_lt}
 use Rattle.std.proofs.lemmas.Bool.Decides.{Decides-like}
-use Rattle.keys.specs.Text.{Bytes, slash, Begins, BeginsSlash, EndsSlash, DoubleSlash, Final, FinalSlash, SlashFree, KeyText, PrefixText, shortened}
+use Rattle.keys.specs.Text.{Bytes, slash, Begins, BeginsSlash, EndsSlash, DoubleSlash, FinalSlash, SlashFree, KeyText, PrefixText, shortened}
 
 -- the empty text holds nothing
 pub nil_holds : (u : Bytes) (b : ℕ) (v : Bytes) → [] ≢ u ++ (b ∷ v)

@@ -1,4 +1,5 @@
 //! Keys and prefixes of a store: checked once, when they are made.
+#![tactic(auto)]
 
 mod buffer;
 pub mod row;

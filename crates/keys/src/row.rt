@@ -1,12 +1,14 @@
 //! Plain rows: how keys and prefixes lie in lists.
-ghost use Rattle.std.specs.Prelude.{◌≡◌, ◌≤◌, [], length, Decides};
+ghost use Rattle.std.specs.Prelude.{◌≡◌, ◌≤◌, ◌==◌, ◌&&◌, [], length, Decides};
+ghost use Rattle.std.specs.Str.{bytes_eq};
+ghost use Rattle.std.specs.Ordering.{on, eq_of_both};
 ghost use Rattle.keys.specs.StoreKeys.{text};
 ghost use Rattle.keys.specs.StorePrefixes.{prefix_text};
 ghost use Rattle.keys.specs.Rows.{row_text, RowOf, AsKey, AsPrefix, compare_rows, compare_fields};
 ghost use Rattle.keys.specs.RowsLemmas.{rows_lawful};
 ghost use Rattle.std.specs.Cmp.Rules.{comparing};
 ghost use Rattle.std.proofs.Common.{rules};
-ghost use Rattle.std.specs.Cmp as Keys;
+ghost use Rattle.std.specs.Cmp.{partial_equiv_from_equiv};
 
 use crate::buffer::lay;
 use crate::store_key::{MAX_KEY_LEN, StoreKey, StoreKeyError};
@@ -126,11 +128,14 @@ impl Row {
 }
 
 impl PartialEq for Row {
-    ghost equals = { λ a b r. Decides r (a ≡ b) };
+    ghost eq = { eq_of_both (on (λ w. w.len) ◌==◌) (on (λ w. w.bytes) bytes_eq) };
 
-    ghost laws = { Keys.partial_equiv_from_equiv (Prim.search (comparing, rules)) };
+    ghost laws = { partial_equiv_from_equiv (Prim.search (comparing, rules)) };
 
-    fn eq(&self, other: &Row) -> bool {
+    fn eq(&self, other: &Row) -> bool
+        ensures value { result ≡ ((self.now.len == other.now.len) && bytes_eq self.now.bytes other.now.bytes) }
+        ensures decides { Decides result (self.now ≡ other.now) }
+    {
         self.len == other.len && same_bytes(&self.bytes, &other.bytes)
     }
 }

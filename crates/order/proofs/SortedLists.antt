@@ -1,6 +1,6 @@
 -- Sorted lists with one more element.
-use Rattle.std.proofs.Common.{◌≡◌, ℕ, ◌+◌, ◌-◌, ◌<◌, ◌≤◌, ◌⊎◌, List, [], ◌∷◌, ◌++◌, length, get_or, take, drop, Err, Ordering, Less, Greater, sym, refl, ap, ◌∙◌, subst, inl, inr, ⊎_elim, append_assoc, arith, length-append, length-drop, length-take}
-use Rattle.std.specs.List.{between, ContainsAt as Has, AllWithin, AllByRecursion as All}
+use Rattle.std.proofs.Common.{◌≡◌, ℕ, ◌+◌, ◌-◌, ◌<◌, ◌≤◌, ◌⊎◌, List, [], ◌∷◌, ◌++◌, length, get_or, take, drop, Err, Ordering, Less, Greater, sym, refl, ap, ◌∙◌, subst, inl, inr, ⊎_elim, append_assoc, arith, length-append, length-drop}
+use Rattle.std.specs.List.{between, ContainsAt as Has, AllWithin, AllByRecursion}
 use Rattle.std.specs.List.Sorted.{IsStrictlySortedBy}
 use Rattle.std.proofs.lemmas.List.{take_at, drop_at, take-take, take-append-drop, get_or-take, get_or-drop, get_or_default, get_or_append_left, get_or-append_right, length-take-le}
 use Rattle.std.proofs.lemmas.Slice.{between_is}
@@ -9,14 +9,14 @@ use Rattle.std.proofs.lemmas.Map.Keys.{Less-from_sorted}
 use Rattle.std.proofs.lemmas.Bool.{cases_lt}
 use Rattle.order.specs.Orders.{Lawful}
 use Rattle.order.specs.SortedLists.{Holding, Placed}
-use Rattle.order.proofs.Orders.{itself, not_below_itself, less_from_greater}
+use Rattle.order.proofs.Orders.{not_below_itself, less_from_greater}
 
 module _ {X : Type 0} where
-  all_insert : (P : X → Type 0) (xs ys : List X) (x : X) → All P (xs ++ ys) → P x → All P (xs ++ (x ∷ ys))
+  all_insert : (P : X → Type 0) (xs ys : List X) (x : X) → AllByRecursion P (xs ++ ys) → P x → AllByRecursion P (xs ++ (x ∷ ys))
   all_insert P [] ys x h p = (p, h)
   all_insert P (a ∷ xs) ys x h p = (h.0, all_insert P xs ys x h.1 p)
 
-  pub sorted_insert : (c : X → X → Ordering) (xs ys : List X) (x : X) → IsStrictlySortedBy c (xs ++ ys) → All (λ y. c y x ≡ Less) xs → All (λ y. c x y ≡ Less) ys → IsStrictlySortedBy c (xs ++ (x ∷ ys))
+  pub sorted_insert : (c : X → X → Ordering) (xs ys : List X) (x : X) → IsStrictlySortedBy c (xs ++ ys) → AllByRecursion (λ y. c y x ≡ Less) xs → AllByRecursion (λ y. c x y ≡ Less) ys → IsStrictlySortedBy c (xs ++ (x ∷ ys))
   unfolding IsStrictlySortedBy
   sorted_insert c [] ys x s b a = (a, s)
   sorted_insert c (y ∷ xs) ys x s b a = (all_insert (λ z. c y z ≡ Less) xs ys x s.0 b.0, sorted_insert c xs ys x s.1 b.1 a)
@@ -78,12 +78,12 @@ module _ {X : Type 0} {c : X → X → Ordering} (o : Lawful c) (l : List X) (i 
         | inr b ↦ let e : k ≡ i - 1 = omega arith in ap (λ j. c (get_or l j x) x) e ∙ last
       ]
 
-  all_under : All (λ y. c y x ≡ Less) (take i l)
+  all_under : AllByRecursion (λ y. c y x ≡ Less) (take i l)
   all_under =
       let long : length (take i l) ≡ i = length-take-le i l in' in
       All-from_get_or (λ y. c y x ≡ Less) (take i l) x (λ k h. let b : k < i = omega arith in ap (λ z. c z x) (get_or-take i l k x b) ∙ under k b)
 
-  all_above : All (λ y. c x y ≡ Less) (drop i l)
+  all_above : AllByRecursion (λ y. c x y ≡ Less) (drop i l)
   all_above =
       let long : length (drop i l) ≡ length l - i = length-drop i l in
       All-from_get_or (λ y. c x y ≡ Less) (drop i l) x (λ k h. ap (λ z. c x z) (get_or-drop i l k x) ∙ above (i + k) x (omega arith) (omega arith))

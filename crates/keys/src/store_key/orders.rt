@@ -1,11 +1,13 @@
 //! Keys in the order of their texts.
 ghost use Rattle.std.specs.Prelude.{◌≡◌, Decides};
+ghost use Rattle.std.specs.Str.{bytes_eq};
 ghost use Rattle.keys.specs.ByteOrder.{compare_bytes};
 ghost use Rattle.keys.specs.StoreKeys.{text};
 ghost use Rattle.keys.specs.StoreKeyTotalOrderLemmas.{laws};
 ghost use Rattle.std.specs.Cmp.Rules.{comparing};
 ghost use Rattle.std.proofs.Common.{rules, arith};
-ghost use Rattle.std.specs.Cmp as Keys;
+ghost use Rattle.std.specs.Cmp.{partial_equiv_from_equiv};
+ghost use Rattle.std.specs.Ordering.{on};
 
 use super::StoreKey;
 use crate::text::{compare_bytes, same_bytes};
@@ -27,15 +29,18 @@ impl TotalOrder for StoreKey {
 }
 
 impl PartialEq for StoreKey {
-    ghost equals = { λ a b r. Decides r (text a ≡ text b) };
+    ghost eq = { on text bytes_eq };
 
-    ghost laws = { Keys.partial_equiv_from_equiv (first_of (Prim.search (comparing, rules), Prim.grind (arith, Self.row.coded.inj))) };
+    ghost laws = { partial_equiv_from_equiv (Prim.search (comparing, rules)) };
 
-    fn eq(&self, other: &StoreKey) -> bool {
+    fn eq(&self, other: &StoreKey) -> bool
+        ensures value { result ≡ bytes_eq (text self.now) (text other.now) }
+        ensures decides { Decides result (text self.now ≡ text other.now) }
+    {
         same_bytes(self.as_bytes(), other.as_bytes())
     }
 }
 
 impl Eq for StoreKey {
-    ghost laws = { first_of (Prim.search (comparing, rules), Prim.grind (arith, Self.row.coded.inj)) };
+    ghost laws = { Prim.search (comparing, rules) };
 }

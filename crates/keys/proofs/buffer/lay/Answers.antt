@@ -1,4 +1,4 @@
-use Rattle.std.proofs.Common.{◌≡◌, ℕ, ◌+◌, ◌-◌, List, ◌++◌, length, drop, sym, refl, ap, append_assoc, arith}
+use Rattle.std.proofs.Common.{◌≡◌, ℕ, ◌+◌, ◌-◌, List, ◌++◌, length, drop, sym, refl, append_assoc, arith}
 use Rattle.std.proofs.lemmas.List.{take_at, drop_at, drop-drop}
 use borrow.Rule.Slice.PartMut.{put_mid, post_of}
 use Rattle.keys.proofs.buffer.lay.Goals as goal
@@ -17,7 +17,7 @@ returns c =
     c.args.front.now
     c.args.back.now
     c.args.out.now
-    c.copy-from-slice.new.self
-    c.copy-from-slice-2.new.self
-    c.copy-from-slice.ensures.after
-    c.copy-from-slice-2.ensures.after
+    c.copy_from_slice.new.self
+    c.copy_from_slice-2.new.self
+    c.copy_from_slice.ensures.after
+    c.copy_from_slice-2.ensures.after

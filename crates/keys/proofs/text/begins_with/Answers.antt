@@ -9,5 +9,5 @@ returns c =
     begins_decides
     c.args.text.now
     c.args.front.now
-    c.starts-with.result
-    (slice_eq-Decides Decides-eqb c.args.front.now (take (length c.args.front.now) c.args.text.now) c.starts-with.result c.starts-with.ensures.value)
+    c.starts_with.result
+    (slice_eq-Decides Decides-eqb c.args.front.now (take (length c.args.front.now) c.args.text.now) c.starts_with.result c.starts_with.ensures.value)

@@ -1,5 +1,7 @@
-use Rattle.keys.specs.ByteOrderLemmas.{compare_from_lex}
+use Rattle.std.proofs.Common.{rules}
+use Rattle.keys.specs.ByteOrder.{compare_bytes}
 use Rattle.keys.proofs.text.compare_bytes.Goals as goal
 
 pub returns : goal.returns
-returns c = compare_from_lex c.args.a.now c.args.b.now c.cmp.result c.cmp.ensures
+unfolding compare_bytes
+returns c = search rules

@@ -14,7 +14,7 @@ returns-then-text-eq0 c = (
 pub returns-else-text-eq0 : goal.returns-else-text-eq0
 returns-else-text-eq0 c =
     Decides-like
-    c.ends-with-slash.result
+    c.ends_with_slash.result
     (final_from_ends c.args.text.now)
     (ends_from_final c.args.text.now (omega arith))
-    c.ends-with-slash.ensures
+    c.ends_with_slash.ensures

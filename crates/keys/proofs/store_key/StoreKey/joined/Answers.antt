@@ -13,6 +13,6 @@ returns c =
     let t : Bytes = text c.args.self.now in
     let s : Bytes = c.args.suffix.now in
     let out : Bytes = c.lay.new.out in
-    let e : out ≡ padded 120 (t ++ s) = laid-padded 120 c.as-bytes.result.now s out c.lay.ensures ∙ ap (λ z. padded 120 (z ++ s)) c.as-bytes.ensures in
+    let e : out ≡ padded 120 (t ++ s) = laid-padded 120 c.as_bytes.result.now s out c.lay.ensures ∙ ap (λ z. padded 120 (z ++ s)) c.as_bytes.ensures in
     let n : length (t ++ s) ≡ c.args.self.now.len + length s - 0 = omega (arith, length-append t s, length-text c.args.self.now) in
     subst (λ (u : Bytes). MadeKey u c.new.result) (ap (λ m. take m out) (sym n) ∙ take-padded 120 (t ++ s) out e) c.new.ensures

@@ -8,7 +8,7 @@ joined-requires c = (omega arith, λ _. subst PrefixText (sym (append-nil c.args
 
 pub returns : goal.returns
 returns c = (
-  c.if-bytes-gt-MAX-PREFIX-LEN.false,
+  c.if-bytes-gt-MAX_PREFIX_LEN.false,
   c.if-not-validate.ensures.0 refl,
   c.joined.ensures ∙ append-nil c.args.bytes.now,
 )

@@ -11,8 +11,8 @@ use Rattle.keys.proofs.store_prefix.StorePrefix.parent.Goals as goal
 inner : (p : StorePrefix) → take (p.len - 1 - 0) p.bytes ≡ shortened (prefix_text p)
 inner p = ap (λ n. take n p.bytes) (omega arith) ∙ shortened-text p
 
-pub parent-of-requires : goal.parent-of-requires
-parent-of-requires c =
+pub parent_of-requires : goal.parent_of-requires
+parent_of-requires c =
     let p : StorePrefix = c.args.self.now in
     let l : 0 < length (prefix_text p) = omega (arith, length_prefix_text p, c.if-self-eq0.false) in (
       omega (arith, length-take-le (p.len - 1 - 0) p.bytes (omega (arith, p.within, p.whole)), p.within),
@@ -25,5 +25,5 @@ returns c =
     let l : 0 < length (prefix_text p) = omega (arith, length_prefix_text p, c.if-self-eq0.false) in (
       take (p.len - 1 - 0) p.bytes,
       shortened-slash (prefix_text p) l (final_slash (prefix_text p) p.rule) ∙ ap (λ z. z ++ (slash ∷ [])) (sym (inner p)),
-      c.parent-of.ensures,
+      c.parent_of.ensures,
     )
