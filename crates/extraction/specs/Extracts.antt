@@ -1,5 +1,5 @@
 -- Extraction of ranges from bytes: the bytes put end to end, a note for each range, and the questions before.
-use Rattle.std.specs.Prelude.{ℕ, ◌+◌, cond, List, [], ◌∷◌, ◌++◌, length, drop, Option}
+use Rattle.std.specs.Prelude.{ℕ, ◌+◌, cond, List, [], ◌∷◌, length, Option}
 use Rattle.std.specs.List.{flat_map}
 use Rattle.ranges.specs.declared.byte_range.ByteRange.{ByteRange}
 use Rattle.extraction.specs.declared.Note.{Note}

@@ -1,14 +1,14 @@
 -- Laws of patches: what laying one, or all, does to a buffer.
-use Rattle.std.proofs.Common.{◌≡◌, ℕ, zero, suc, ◌+◌, ◌-◌, ◌^◌, ◌<◌, ◌≤◌, max, Bool, true, false, leb, ◌⊎◌, List, [], ◌∷◌, ◌++◌, length, get_or, take, drop, replicate, Some, None, fold, Option, sym, refl, ap, ◌∙◌, inl, inr, arith}
+use Rattle.std.proofs.Common.{◌≡◌, ℕ, zero, suc, ◌+◌, ◌-◌, ◌<◌, ◌≤◌, max, leb, List, [], ◌∷◌, ◌++◌, length, get_or, take, drop, replicate, Some, None, Option, sym, refl, ap, ◌∙◌, inl, inr, arith}
 use lib.Seq.{paste, take-append-add}
 use Rattle.std.proofs.lemmas.List.Edits.{paste_all}
-use Rattle.std.proofs.lemmas.List.{append_assoc, append-nil, length-append, length-replicate, length-take-le, length-take, length-drop, take-append-drop, take-append-le, take-take, take_at, take-replicate, take_all, drop_all, drop-append-le}
+use Rattle.std.proofs.lemmas.List.{append_assoc, append-nil, length-append, length-replicate, length-take-le, length-drop, take-append-drop, take-append-le, take-take, take_at, take-replicate, take_all, drop_all, drop-append-le}
 use Rattle.std.proofs.lemmas.Slice.{drop-append-drop}
 use Rattle.std.proofs.lemmas.List.Sums.{fold_more}
 use Rattle.std.proofs.lemmas.Bool.{leb-true, cases_lt}
 use Rattle.patches.specs.declared.Patch.{Patch}
 use Rattle.ranges.specs.Ranges.{Bytes}
-use Rattle.ranges.specs.Refusals.{Refusal, refusal_at, first_bad, first_no, few, room}
+use Rattle.ranges.specs.Refusals.{Refusal, refusal_at, first_no, few, room}
 use Rattle.ranges.specs.Buffers.{fronted}
 use Rattle.patches.specs.Patches.{padded, overlaid, laid, patch_bytes, laid_all, patched_length, places_inside, lay_no, in_place_no}
 use Rattle.ranges.proofs.Questions.{good_head, good_tail, good_at, none_of_three, enough_from_room}
@@ -107,7 +107,7 @@ module _ (w w1 p : Bytes) (n at : ℕ) (in-n : n ≤ length w) (in_p : at + leng
 pub length-patch_bytes : (d : Bytes) (p : Patch) → p.start + p.len ≤ length d → length (patch_bytes d p) ≡ p.len
 length-patch_bytes d p h = length-take-le p.len (drop p.start d) (omega (arith, length-drop p.start d))
 
--- a place that `placesInside` passes
+-- a place that `places_inside` passes
 pub place_at : (n : ℕ) (ps : List Patch) (i : ℕ) (x : Patch) → places_inside n 0 ps ≡ None → i < length ps → (get_or ps i x).start + (get_or ps i x).len ≤ n
 place_at n ps i x e h = leb-true ((get_or ps i x).start + (get_or ps i x).len) n (good_at (λ p. leb (p.start + p.len) n) (λ j _. refusal_at 6 j) ps 0 i x e h)
 

@@ -1,4 +1,6 @@
 //! Patches: bytes to be laid over a value at an offset.
+#![tactic(auto)]
+
 ghost use Rattle.std.specs.Prelude.{◌≡◌, ◌+◌, ◌<◌, ◌≤◌, max, length, take, is_ok, if◌then◌else◌, None, Err, nat_le};
 ghost use Rattle.ranges.specs.Ranges.{in_u64};
 ghost use Rattle.ranges.specs.Refusals.{told, unless, room};

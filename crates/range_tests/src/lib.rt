@@ -1,4 +1,5 @@
 //! Tests of byte ranges, extraction, read lists and patches.
+#![tactic(auto)]
 
 #[cfg(test)]
 mod extracts;

@@ -1,10 +1,9 @@
 -- Laws of the questions that a call asks before it acts.
-use Rattle.std.proofs.Common.{◌≡◌, ℕ, zero, suc, ◌+◌, ◌-◌, ◌^◌, ◌<◌, ◌≤◌, Bool, true, false, cond, ltb, List, [], ◌∷◌, length, get_or, take, drop, Some, None, Ok, Err, Option, Result, sym, refl, ap, ◌∙◌, arith}
+use Rattle.std.proofs.Common.{◌≡◌, ℕ, zero, suc, ◌+◌, ◌^◌, ◌<◌, ◌≤◌, Bool, true, false, ltb, List, [], ◌∷◌, length, get_or, drop, Some, None, Ok, Err, Option, Result, sym, refl, ap, ◌∙◌, arith}
 use Rattle.std.proofs.lemmas.List.{at_drop_more, at_drop_all}
 use Rattle.std.proofs.lemmas.Bool.{lt-ltb, le-ltb, ltb-false}
-use Rattle.ranges.specs.declared.byte_range.ByteRange.{ByteRange}
-use Rattle.ranges.specs.Ranges.{Bytes, fitting, picked, in_u64, only_if}
-use Rattle.ranges.specs.Refusals.{Refusal, refusal, unfit, unless, first_no, first_bad, all_fit, room, few}
+use Rattle.ranges.specs.Ranges.{in_u64, only_if}
+use Rattle.ranges.specs.Refusals.{Refusal, refusal, unless, first_no, first_bad, room}
 
 pub room_short : (have need : ℕ) → have < need → room have need ≡ Some (refusal 9)
 room_short have need h = rw (lt-ltb have need h)

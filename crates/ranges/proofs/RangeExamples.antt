@@ -8,8 +8,8 @@ use Rattle.ranges.specs.Refusals.{first_bad}
 pub range_examples : RangeExamples
 unfolding picked first_bad
 range_examples = record {
-  suffix-unfit = refl;
-  unfit-number = refl;
+  suffix_unfit = refl;
+  unfit_number = refl;
   rest_fits = refl;
   rest_empty = refl;
   excluded_included = refl;

@@ -1,5 +1,5 @@
 -- Examples of ranges, shown of the definitions.
-use Rattle.std.specs.Prelude.{◌≡◌, ℕ, true, [], ◌∷◌, Some, None, Err}
+use Rattle.std.specs.Prelude.{◌≡◌, true, [], ◌∷◌, Some, None, Err}
 use Rattle.std.specs.Option.{ok_or}
 use Rattle.ranges.specs.declared.byte_range.Bound.TheVariants.{Included, Excluded}
 use Rattle.ranges.specs.declared.byte_range.ByteRange.TheVariants.{FromStart, Suffix}
@@ -8,8 +8,8 @@ use Rattle.ranges.specs.Refusals.{refusal, unfit, all_fit}
 
 pub record RangeExamples : Type 0 where
   -- of 3 bytes a suffix of 4 gives 4
-  pub suffix-unfit : all_fit 3 0 (Suffix 4 ∷ []) ≡ Some (unfit 0 (Suffix 4) 3)
-  pub unfit-number : (unfit 0 (Suffix 4) 3).number ≡ 4
+  pub suffix_unfit : all_fit 3 0 (Suffix 4 ∷ []) ≡ Some (unfit 0 (Suffix 4) 3)
+  pub unfit_number : (unfit 0 (Suffix 4) 3).number ≡ 4
   -- of 3 bytes the range from 3 on fits and is empty
   pub rest_fits : fitting (FromStart 3 None) 3 ≡ true
   pub rest_empty : picked (1 ∷ 2 ∷ 3 ∷ []) (FromStart 3 None) ≡ []

@@ -1,9 +1,8 @@
 -- The order of ranges is a total order.
 use Rattle.std.specs.Prelude.{◌≡◌, ℕ, Some, None, Option, refl}
 use Rattle.std.specs.declared.cmp.Ordering.TheVariants.{Less, Equal, Greater}
-use Rattle.std.specs.declared.cmp.Ordering.{Ordering}
-use Rattle.std.proofs.Common.{true≢false, sym, ◌∙◌, ap}
-use Rattle.std.specs.Ordering.{ordering_then, ordering_reverse, is_lt, is_gt, nat_cmp}
+use Rattle.std.proofs.Common.{true≢false, sym, ap}
+use Rattle.std.specs.Ordering.{ordering_then, ordering_reverse, is_gt, nat_cmp}
 use Rattle.order.specs.Orders.{Lawful}
 use Rattle.order.proofs.Orders.{numbers_lawful, pairs_lawful, less_equal}
 use Rattle.ranges.specs.declared.byte_range.ByteRange.{ByteRange}

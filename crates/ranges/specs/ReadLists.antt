@@ -1,5 +1,5 @@
 -- What a read list means: its ranges, in order, and what adding one does.
-use Rattle.std.specs.Prelude.{◌≡◌, ℕ, ◌<◌, ◌⊎◌, List, length, take, Ok, Err, Result}
+use Rattle.std.specs.Prelude.{◌≡◌, ◌<◌, ◌⊎◌, List, length, take, Ok, Err, Result}
 use Rattle.std.specs.List.Sorted.{IsStrictlySortedBy}
 use Rattle.std.specs.List.{ContainsAt as Has}
 use Rattle.order.specs.SortedLists.{list_fault}

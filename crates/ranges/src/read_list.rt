@@ -1,6 +1,7 @@
 //! A list of ranges to read: in order, without repeats, at most 64.
-ghost use Rattle.std.specs.Prelude.{◌≡◌, ◌≤◌, T, length, take};
-ghost use Rattle.std.specs.Map.Invariant.{is-strictly-sorted-by};
+ghost use Rattle.std.specs.Prelude.{◌≡◌, ◌≤◌, length, take};
+ghost use Rattle.std.proofs.Props.{props};
+ghost use Rattle.std.specs.List.Sorted.{IsStrictlySortedBy};
 ghost use Rattle.ranges.specs.Orders.{compare_ranges};
 
 use crate::byte_range::ByteRange;
@@ -17,5 +18,5 @@ pub struct ReadList {
     len: usize,
     ghost sized: { length ranges ≡ 64 },
     ghost within: { len ≤ 64 },
-    ghost ascends: { T (is-strictly-sorted-by compare_ranges (take len ranges)) },
+    ghost ascends: { IsStrictlySortedBy compare_ranges (take len ranges) } by { Prim.hlevel props },
 }

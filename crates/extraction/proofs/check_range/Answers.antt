@@ -1,4 +1,4 @@
-use Rattle.std.proofs.Common.{length, sym, ap, ◌∙◌, arith}
+use Rattle.std.proofs.Common.{length, ap, arith}
 use Rattle.extraction.proofs.Picks.{ok_only, err_only, picked_from_ok, one_no_lem, one_short, one_yes}
 use Rattle.extraction.proofs.check_range.Goals as goal
 

@@ -13,7 +13,7 @@ returns-in-Ok c =
     let e : k ≡ length (picked c.args.bytes.now c.args.range) = omega (arith, ap length p) in
     record {
       end = ap (λ (xs : Bytes). c.args.at + length xs) p;
-      out = put_part c.args.out.now _ _ c.args.at k (c.copy-from-slice.ensures.after ∙ p) e;
+      out = put_part c.args.out.now _ _ c.args.at k (c.copy_from_slice.ensures.after ∙ p) e;
     }
 
 pub returns-in-Err : goal.returns-in-Err
@@ -24,5 +24,5 @@ returns-in-Err c =
       out = paste_none c.args.out.now c.args.at [] ∙ ap (λ (xs : Bytes). paste c.args.out.now c.args.at xs (length xs)) (sym p);
     }
 
-pub slice-bounds-copy-from-slice-end : goal.slice-bounds-copy-from-slice-end
-slice-bounds-copy-from-slice-end c = let e = ap length (picked_from_ok c.args.bytes.now c.args.range _ _ c.in-Ok.ensures) in search rules
+pub slice_bounds-copy_from_slice-end : goal.slice_bounds-copy_from_slice-end
+slice_bounds-copy_from_slice-end c = let e = ap length (picked_from_ok c.args.bytes.now c.args.range _ _ c.in-Ok.ensures) in search rules

@@ -1,4 +1,4 @@
-use Rattle.std.proofs.Common.{◌≡◌, ◌+◌, length, None, sym, ap, ◌∙◌, arith}
+use Rattle.std.proofs.Common.{◌+◌, length, None, ap, ◌∙◌, arith}
 use lib.Seq.{paste}
 use Rattle.ranges.specs.declared.byte_range.ByteRange.TheVariants.{FromStart}
 use Rattle.ranges.specs.Ranges.{Bytes}
@@ -6,8 +6,8 @@ use Rattle.extraction.proofs.Items.{length-items_more, length-items-take, items_
 use Rattle.ranges.proofs.Writes.{fronted_from_paste}
 use Rattle.extraction.proofs.copy_ranges.Goals as goal
 
-pub copy-range-at-requires : goal.copy-range-at-requires
-copy-range-at-requires c =
+pub copy_range-at-requires : goal.copy_range-at-requires
+copy_range-at-requires c =
     let b = c.args.bytes.now in
     let rs = c.args.ranges.now in
     let i = c.loop-range.range-index in
@@ -18,7 +18,7 @@ copy-range-at-requires c =
 pub loop-range-preserved : goal.loop-range-preserved
 loop-range-preserved c =
     copied_more c.args.bytes.now c.args.ranges.now c.loop-range.range-index _ c.args.out.now _ _ _ _ c.loop-range-test.true
-    c.loop-range.invariant.0 c.loop-range.invariant.1 c.copy-range-at.ensures.end c.copy-range-at.ensures.out
+    c.loop-range.invariant.0 c.loop-range.invariant.1 c.copy_range-at.ensures.end c.copy_range-at.ensures.out
 
 pub returns : goal.returns
 returns c =

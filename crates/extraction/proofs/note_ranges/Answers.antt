@@ -1,4 +1,4 @@
-use Rattle.std.proofs.Common.{◌≡◌, ◌+◌, ◌^◌, ◌<◌, ◌++◌, length, get_or, set, None, sym, refl, ap, ◌∙◌, arith}
+use Rattle.std.proofs.Common.{◌+◌, get_or, set, None, refl, ap, ◌∙◌, arith}
 use Rattle.ranges.specs.declared.byte_range.ByteRange.TheVariants.{FromStart}
 use Rattle.extraction.specs.declared.Note.{Note}
 use Rattle.extraction.specs.Extracts.{note_at, notes_from}
@@ -9,14 +9,14 @@ pub loop-i-init : goal.loop-i-init
 unfolding notes_from
 loop-i-init c = (refl, refl)
 
-pub overflow-add-at : goal.overflow-add-at
-overflow-add-at c =
+pub overflow_add-at : goal.overflow_add-at
+overflow_add-at c =
     let b = c.args.bytes.now in
     let rs = c.args.ranges.now in
     let i = c.loop-i.i in
     let m = length-items_more b rs i (FromStart 0 None) c.loop-i-test.true in
     let t = length-items-take b rs (i + 1) in
-    omega (arith, m, t, c.loop-i.invariant.0, c.requires.fit, c.picked-len-len.ensures)
+    omega (arith, m, t, c.loop-i.invariant.0, c.requires.fit, c.picked_len-len.ensures)
 
 pub loop-i-preserved : goal.loop-i-preserved
 loop-i-preserved c =
@@ -25,8 +25,8 @@ loop-i-preserved c =
     let i = c.loop-i.i in
     let d = FromStart 0 None in
     let m = length-items_more b rs i d c.loop-i-test.true in
-    let n = c.note-of.ensures ∙ ap (λ at. note_at at b (get_or rs i d)) c.loop-i.invariant.0 in (
-      omega (arith, m, c.loop-i.invariant.0, c.picked-len-len.ensures),
+    let n = c.note_of.ensures ∙ ap (λ at. note_at at b (get_or rs i d)) c.loop-i.invariant.0 in (
+      omega (arith, m, c.loop-i.invariant.0, c.picked_len-len.ensures),
       ap (λ (x : Note). set c.loop-i.notes i x) n
           ∙ noted_more b rs i d c.args.notes.now c.loop-i.notes c.loop-i-test.true (omega (arith, c.requires.space, c.loop-i-test.true)) c.loop-i.invariant.1,
     )

@@ -1,4 +1,4 @@
-use Rattle.std.proofs.Common.{length, rules}
+use Rattle.std.proofs.Common.{rules}
 use Rattle.patches.proofs.Laying.{same_questions}
 use Rattle.patches.proofs.check_lay.Goals as goal
 

@@ -1,4 +1,4 @@
-use Rattle.std.proofs.Common.{◌≡◌, ℕ, ◌+◌, ◌-◌, ◌≤◌, length, take, drop, replicate, sym, refl, ap, ◌∙◌, arith}
+use Rattle.std.proofs.Common.{ℕ, ◌+◌, ◌-◌, length, drop, replicate, sym, refl, ap, ◌∙◌, arith}
 use Rattle.std.proofs.lemmas.List.{length-replicate, length-take-le, length-drop}
 use Rattle.std.proofs.lemmas.Slice.{put_mid-paste}
 use Rattle.patches.proofs.Laying.{laid-after_gap, laid-within}
@@ -13,7 +13,7 @@ returns c =
     let p = c.args.part.now in
     let work = c.args.work.now in
     let k = at + length p - at in
-    let put = put_part c.if-n-at.work c.copy-from-slice.new.self p at k c.copy-from-slice.ensures.after (omega arith) in
+    let put = put_part c.if-n-at.work c.copy_from_slice.new.self p at k c.copy_from_slice.ensures.after (omega arith) in
     record {
       len = c.max.ensures;
       work =

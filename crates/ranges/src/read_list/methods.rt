@@ -1,6 +1,6 @@
-ghost use Rattle.std.specs.Prelude.{◌≡◌, T, [], length};
+ghost use Rattle.std.specs.Prelude.{◌≡◌, [], length};
 ghost use Rattle.std.specs.List.{slice_get};
-ghost use Rattle.std.specs.Map.Invariant.{is-strictly-sorted-by};
+ghost use Rattle.std.specs.List.Sorted.{IsStrictlySortedBy};
 ghost use Rattle.ranges.specs.Orders.{compare_ranges};
 ghost use Rattle.ranges.specs.ReadLists.{reads, Added};
 
@@ -50,7 +50,7 @@ impl ReadList {
     /// The ranges, in ascending order.
     pub fn as_slice(&self) -> &[ByteRange]
         ensures value { result.now ≡ reads self.now }
-        ensures ascends { T (is-strictly-sorted-by compare_ranges result.now) }
+        ensures ascends { IsStrictlySortedBy compare_ranges result.now }
     {
         &self.ranges[0..self.len]
     }
