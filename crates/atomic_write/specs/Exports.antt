@@ -1,11 +1,11 @@
 -- The export of a value through the temporary key.
 --   temporary k                the temporary key of k
 --   TemporaryKey k r           what asking for it answers
---   export_no k c               the questions of an export, before it writes: root, 12; length of the temporary key, 3; temporary key absent, 7
+--   export_no k c              the questions of an export, before it writes: root, 12; length of the temporary key, 3; temporary key absent, 7
 --   Exported                   what an export leaves, by its answer
---   patch_export_no              the questions of an export of patches, before its value is built
+--   patch_export_no            the questions of an export of patches, before its value is built
 --   PatchExported              what it leaves, in the work buffer too
-use Rattle.std.specs.Prelude.{◌≡◌, ℕ, Bool, true, false, cond, List, [], ◌∷◌, ◌++◌, length, is_some, Some, None, Ok, Err, Option, Result, ◌==◌, nat_lt}
+use Rattle.std.specs.Prelude.{◌≡◌, ℕ, Bool, cond, List, [], ◌∷◌, ◌++◌, length, is_some, Some, None, Ok, Err, Option, Result, ◌==◌, nat_lt}
 use Rattle.std.specs.Option.{option_map}
 use Rattle.keys.specs.Text.{Bytes}
 use Rattle.keys.specs.StoreKeys.{text}

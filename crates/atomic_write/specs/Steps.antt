@@ -1,11 +1,11 @@
 -- What the steps of an export come to.
-use Rattle.std.specs.Prelude.{◌≡◌, ℕ, ◌-◌, Bool, true, false, cond, List, length, take, is_some, Some, None, Ok, Err, Option, Result, refl}
+use Rattle.std.specs.Prelude.{◌≡◌, ℕ, ◌-◌, true, false, List, length, take, is_some, Some, None, Ok, Err, Option, Result, refl}
 use Rattle.std.proofs.Common.{sym, ◌∙◌, ap, subst, arith}
 use Rattle.std.specs.Option.{option_map}
 use Rattle.keys.specs.Text.{Bytes}
 use Rattle.storage.specs.Contents.{Contents, found, sized, bytes_of, put, moved}
 use Rattle.storage.specs.Faults.{own, raised, at_step, fault_of, answered}
-use Rattle.storage.specs.Writes.{set, rename, patched, Settled}
+use Rattle.storage.specs.Writes.{set, rename, patched}
 use Rattle.storage.specs.Stores.{Wrote}
 use Rattle.storage.specs.declared.fault.Fault.{Fault}
 use Rattle.storage.specs.declared.fault.Cause.TheVariants.{Exists}
@@ -17,7 +17,7 @@ use Rattle.patches.specs.declared.Patch.{Patch}
 use Rattle.patches.specs.Patches.{lay_no}
 use Rattle.patches.proofs.Laying.{take-fronted}
 use Rattle.ranges.specs.Buffers.{fronted}
-use Rattle.atomic_write.specs.Exports.{temporary, temporary_no, or_else, standing_no, export_no, Exported, refused, unbegun, unfinished, finished, patch_export_no, PatchExported}
+use Rattle.atomic_write.specs.Exports.{temporary, temporary_no, or_else, standing_no, export_no, Exported, unbegun, unfinished, finished, patch_export_no, PatchExported}
 
 -- a verdict that refuses is one that refuses once it is passed up
 pub raised_some : (o : Option Fault) → (f : Fault) × (o ≡ Some f) → (f : Fault) × (option_map raised o ≡ Some f)

@@ -50,15 +50,15 @@ impl<S> AtomicWriteStorageAdapter<S> {
 }
 
 impl<S: ReadableStorageTraits> ReadableStorageTraits for AtomicWriteStorageAdapter<S> {
-    ghost contents = { λ a. contents a.storage };
+    ghost contents = { λ a. S.ReadableStorageTraits.contents a.storage };
 
-    ghost verdict = { λ a. raised_verdict (verdict a.storage) };
+    ghost verdict = { λ a. raised_verdict (S.ReadableStorageTraits.verdict a.storage) };
 
     ghost tidy = { false };
 
     ghost inplace = { false };
 
-    ghost layers = { suc layers };
+    ghost layers = { suc S.ReadableStorageTraits.layers };
 
     ghost sound = { Prim.search rules };
 

@@ -1,5 +1,5 @@
 -- What an offset write through the countdown comes to.
-use Rattle.std.proofs.Common.{◌≡◌, ℕ, ◌<◌, Bool, true, false, cond, List, length, is_ok, None, Ok, Err, Result, sym, refl, ap, ◌∙◌}
+use Rattle.std.proofs.Common.{◌≡◌, ℕ, ◌<◌, Bool, true, false, List, length, is_ok, None, Ok, Err, Result, sym, refl, ap, ◌∙◌}
 use Rattle.keys.specs.Text.{Bytes}
 use Rattle.patches.specs.declared.Patch.{Patch}
 use Rattle.storage.specs.Contents.{found, bytes_of}

@@ -80,15 +80,15 @@ impl<S> Countdown<S> {
 }
 
 impl<S: ReadableStorageTraits> ReadableStorageTraits for Countdown<S> {
-    ghost contents = { λ s. contents s.storage };
+    ghost contents = { λ s. S.ReadableStorageTraits.contents s.storage };
 
-    ghost verdict = { λ s. counted s.left (verdict s.storage) };
+    ghost verdict = { λ s. counted s.left (S.ReadableStorageTraits.verdict s.storage) };
 
-    ghost tidy = { tidy };
+    ghost tidy = { S.ReadableStorageTraits.tidy };
 
-    ghost inplace = { inplace };
+    ghost inplace = { S.ReadableStorageTraits.inplace };
 
-    ghost layers = { suc layers };
+    ghost layers = { suc S.ReadableStorageTraits.layers };
 
     ghost sound = { Prim.search rules };
 

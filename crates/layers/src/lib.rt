@@ -1,3 +1,4 @@
 //! Layers over a store: each is a store again.
+#![tactic(auto)]
 
 pub mod countdown;

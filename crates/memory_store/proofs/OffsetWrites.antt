@@ -1,19 +1,19 @@
 -- Offset writes in place.
-use Rattle.std.proofs.Common.{◌≡◌, ℕ, ◌+◌, ◌<◌, ◌≤◌, Bool, true, false, cond, ◌&&◌, eqb, ltb, leb, List, [], ◌∷◌, ◌++◌, length, take, drop, is_ok, IfOk, Some, None, Ok, Err, Option, Result, unwrap_or, sym, refl, ap, ◌∙◌, arith, Bor}
+use Rattle.std.proofs.Common.{◌≡◌, ℕ, ◌<◌, ◌≤◌, Bool, true, false, cond, ◌&&◌, eqb, ltb, leb, List, [], ◌∷◌, length, take, is_ok, IfOk, Some, None, Ok, Err, Option, Result, unwrap_or, sym, refl, ap, ◌∙◌, arith, Bor}
 use Rattle.std.specs.Option.{option_map}
-use Rattle.std.proofs.lemmas.List.{append_assoc, take_at}
+use Rattle.std.proofs.lemmas.List.{take_at}
 use Rattle.std.proofs.lemmas.Bool.{lt-leb, ltb-true, eqb-true, cond-true, cond-false}
 use Rattle.keys.specs.Text.{Bytes}
 use Rattle.ranges.specs.Buffers.{fronted}
 use Rattle.ranges.specs.Ranges.{only_if}
-use Rattle.ranges.specs.Refusals.{Refusal, refusal, told, unless, first_no, first_bad, few, room as asks-room}
-use Rattle.ranges.proofs.Questions.{yes_from_unless, no_from_unless, room_enough}
+use Rattle.ranges.specs.Refusals.{Refusal, refusal, told, unless, few, room as asks-room}
+use Rattle.ranges.proofs.Questions.{yes_from_unless, no_from_unless}
 use Rattle.patches.specs.declared.Patch.{Patch}
 use Rattle.patches.specs.declared.PatchError.{PatchError}
-use Rattle.patches.specs.Patches.{patch_refusal, laid_all, places_inside, patches_no, lay_no}
+use Rattle.patches.specs.Patches.{patch_refusal, places_inside, patches_no, lay_no}
 use Rattle.storage.specs.Contents.{Contents, Ascending, found, bytes_of, put, total}
 use Rattle.storage.specs.Faults.{own, fault_of}
-use Rattle.storage.specs.Writes.{Write, patch, patched, after, Settled, OffsetWritten}
+use Rattle.storage.specs.Writes.{patch, patched, after, Settled, OffsetWritten}
 use Rattle.storage.specs.declared.fault.Fault.{Fault}
 use Rattle.storage.specs.declared.fault.Cause.TheVariants.{Full}
 use Rattle.storage.proofs.Order.{clash}

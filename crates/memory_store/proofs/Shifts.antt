@@ -1,10 +1,10 @@
 -- Rows of bytes, some of which have moved up or down.
-use Rattle.std.proofs.Common.{◌≡◌, ℕ, ◌+◌, ◌-◌, ◌<◌, ◌≤◌, ◌⊎◌, List, ◌++◌, length, get_or, take, drop, sym, refl, ap, ◌∙◌, inl, inr, append_assoc, arith, length-append, length-drop, length-take}
+use Rattle.std.proofs.Common.{◌≡◌, ℕ, ◌+◌, ◌-◌, ◌<◌, ◌≤◌, ◌⊎◌, List, ◌++◌, length, get_or, take, drop, sym, refl, ap, ◌∙◌, inl, inr, arith, length-append, length-drop, length-take}
 use Rattle.std.proofs.lemmas.Bool.{cases_lt}
 use borrow.Rule.Slice.PartMut.{put_mid}
 use Rattle.std.proofs.lemmas.Slice.{put_mid-paste}
 use Rattle.std.proofs.lemmas.List.Edits.{paste_all}
-use Rattle.std.proofs.lemmas.List.{drop-append-le, ext_get_or, get_or-take, get_or-drop, get_or_append_left, get_or-append_right, take_at, drop_at, take-append-le}
+use Rattle.std.proofs.lemmas.List.{drop-append-le, ext_get_or, get_or-take, get_or-drop, get_or_append_left, get_or-append_right, take_at, take-append-le}
 
 module _ (s t : List ℕ) (from by : ℕ) (long : length s ≡ length t) where
   pub up_front : from + by ≤ length t → ((k : ℕ) → k < from + by → get_or s k 0 ≡ get_or t k 0) → take from s ≡ take from t

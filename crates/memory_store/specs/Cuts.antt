@@ -1,13 +1,13 @@
 -- A row cut by the lengths of its values, in parts.
-use Rattle.std.specs.Prelude.{◌≡◌, ℕ, zero, suc, ◌+◌, ◌-◌, ◌<◌, ◌≤◌, List, [], ◌∷◌, ◌++◌, length, take, drop, Some, None, slice_index_or, refl}
-use Rattle.std.proofs.Common.{sym, ◌∙◌, ap, arith, add_assoc, zero-add, add-zero, length-append, length-take, length-drop}
-use Rattle.std.proofs.lemmas.List.{take_more, take-append-le, drop-append-le, take_at, drop_at, drop-drop, take-append-drop}
+use Rattle.std.specs.Prelude.{◌≡◌, ℕ, zero, suc, ◌+◌, ◌<◌, ◌≤◌, List, [], ◌∷◌, ◌++◌, length, take, drop, Some, None, slice_index_or, refl}
+use Rattle.std.proofs.Common.{sym, ◌∙◌, ap, arith, add_assoc, zero-add, add-zero, length-take, length-drop}
+use Rattle.std.proofs.lemmas.List.{take_more, take-append-le, drop-append-le, take_at, drop_at, take-append-drop}
 use Rattle.std.proofs.lemmas.Option.{slice_get_read, slice_get_past}
 use Rattle.std.specs.List.{slice_get}
 use Rattle.std.specs.Option.{option_map}
 use Rattle.keys.specs.Text.{Bytes}
 use Rattle.keys.specs.StoreKeys.{text}
-use Rattle.storage.specs.Contents.{Contents, Entry, keys_of, total, Lawful}
+use Rattle.storage.specs.Contents.{Contents, keys_of, total, Lawful}
 use Rattle.memory_store.specs.declared.slot.Slot.{Slot}
 use Rattle.memory_store.specs.Slots.{slot_keys, lens, cut}
 

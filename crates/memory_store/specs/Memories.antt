@@ -1,5 +1,5 @@
 -- What the invariants of a MemoryStore say, and its writes by its verdict.
-use Rattle.std.specs.Prelude.{◌≡◌, ℕ, Bool, true, false, cond, Some, None, Ok, Err, vec_items, vec_len, Vec, refl}
+use Rattle.std.specs.Prelude.{◌≡◌, ℕ, Bool, true, false, Some, Ok, Err, vec_items, Vec, refl}
 use Rattle.std.proofs.Common.{sym, ◌∙◌, ap, arith}
 use Rattle.std.specs.declared.alloc.Global.{Global}
 use Rattle.std.proofs.lemmas.Bool.{cond-true}
@@ -7,7 +7,7 @@ use Rattle.keys.specs.Text.{Bytes}
 use Rattle.storage.specs.Contents.{Contents, same, found, put, without, moved}
 use Rattle.storage.specs.Faults.{own}
 use Rattle.storage.specs.Writes.{Write, rename, after, Settled}
-use Rattle.storage.specs.declared.fault.Cause.TheVariants.{Absent, Full}
+use Rattle.storage.specs.declared.fault.Cause.TheVariants.{Full}
 use Rattle.storage.proofs.Order.{clash}
 use Rattle.storage.proofs.Finds.{moved_some}
 use Rattle.storage.proofs.Sizes.{move_most}

@@ -1,5 +1,5 @@
 -- Stored keys with the lengths of their values, and the packed row of those values.
---   slot_keys, lens             the keys' texts; the lengths added up
+--   slot_keys, lens            the keys' texts; the lengths added up
 --   cut ss row                 the row cut by the lengths: each key with its value
 use Rattle.std.specs.Prelude.{◌≡◌, ℕ, ◌+◌, ◌<◌, ◌≤◌, true, List, [], ◌∷◌, length, take, drop, Ok, Err, Result, slice_index_or}
 use Rattle.keys.specs.Text.{Bytes}

@@ -1,14 +1,14 @@
 -- A key with its value put into slots and row, or taken out.
-use Rattle.std.specs.Prelude.{◌≡◌, ℕ, ◌+◌, ◌-◌, ◌<◌, ◌≤◌, true, List, [], ◌∷◌, ◌++◌, length, take, drop, Some, None, Option, slice_index_or, refl}
+use Rattle.std.specs.Prelude.{◌≡◌, ℕ, ◌+◌, ◌<◌, ◌≤◌, true, List, ◌∷◌, ◌++◌, length, take, drop, Some, None, Option, slice_index_or, refl}
 use Rattle.std.proofs.Math.Path.{sym, ap}
-use Rattle.std.proofs.Common.{◌∙◌, subst, append_assoc, length-take, length-drop}
+use Rattle.std.proofs.Common.{◌∙◌, length-take, length-drop}
 use native.Mathlib.Omega.{arith}
 use Rattle.std.proofs.Math.ListN.{length-append}
-use Rattle.std.specs.List.{insert, remove}
+use Rattle.std.specs.List.{insert}
 use Rattle.std.proofs.lemmas.List.{take-append-drop, take_at, drop_at, drop-drop, drop_more}
 use Rattle.keys.specs.Text.{Bytes}
 use Rattle.keys.specs.StoreKeys.{text}
-use Rattle.storage.specs.Contents.{Contents, same, found, put, without, keys_of, ascending, Gap}
+use Rattle.storage.specs.Contents.{same, found, put, without, keys_of, ascending, Gap}
 use Rattle.storage.proofs.Ascends.{ascending_split, ascending_inserted, ascending_removed}
 use Rattle.storage.proofs.Places.{entry, found_at, found_gap, put_gap, without_gap, without_at}
 use Rattle.memory_store.specs.declared.slot.Slot.{Slot}

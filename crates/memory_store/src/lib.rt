@@ -1,4 +1,5 @@
 //! A store in memory.
+#![tactic(auto)]
 
 mod find;
 pub mod memory_store;

@@ -1,9 +1,9 @@
 -- Ascending keys: where they split, and what keeps them ascending.
-use Rattle.std.proofs.Common.{◌≡◌, Bool, true, false, ◌&&◌, List, [], ◌∷◌, ◌++◌, map, sym, refl, ap, ◌∙◌, subst}
+use Rattle.std.proofs.Common.{◌≡◌, Bool, true, false, List, [], ◌∷◌, ◌++◌, refl}
 use Rattle.std.proofs.lemmas.Bool.{and_parts, and_from}
 use Rattle.keys.specs.Text.{Bytes}
-use Rattle.storage.specs.Contents.{Contents, Entry, same, earlier, put, without, keys_of, all_after, all_before, ascending, Ascending, Gap}
-use Rattle.storage.proofs.Order.{earlier_trans, earlier_back, same_true}
+use Rattle.storage.specs.Contents.{Contents, earlier, without, keys_of, all_after, all_before, ascending, Ascending, Gap}
+use Rattle.storage.proofs.Order.{earlier_trans}
 
 pub after_cons : (k j : Bytes) (js : List Bytes) → earlier k j ≡ true → all_after k js ≡ true → all_after k (j ∷ js) ≡ true
 unfolding all_after

@@ -1,6 +1,6 @@
 -- Erasing keys that lie as rows: one, and many in turn.
-use Rattle.std.proofs.Common.{◌≡◌, ℕ, ◌+◌, ◌<◌, ◌≤◌, Bool, true, false, ◌||◌, ◌⊎◌, List, [], ◌∷◌, ◌++◌, length, get_or, take, drop, IfErr, Some, Ok, Err, Option, Result, sym, refl, ap, ◌∙◌, inl, inr, arith}
-use Rattle.std.specs.List.{AllByRecursion as All}
+use Rattle.std.proofs.Common.{◌≡◌, ℕ, ◌+◌, ◌<◌, ◌≤◌, Bool, true, false, ◌||◌, List, [], ◌∷◌, ◌++◌, length, get_or, take, drop, IfErr, Ok, Err, Result, sym, refl, ap, ◌∙◌, inl, inr, arith}
+use Rattle.std.specs.List.{AllByRecursion}
 use Rattle.std.proofs.ByRecursion.{All-more}
 use Rattle.std.proofs.lemmas.List.{take_more, drop_more, take-append-drop, take_all, length-take-le}
 use Rattle.std.proofs.lemmas.Bool.{cases_lt}
@@ -11,7 +11,7 @@ use Rattle.keys.specs.declared.row.Row.{Row}
 use Rattle.keys.specs.declared.store_key.StoreKey.{StoreKey}
 use Rattle.keys.specs.declared.store_key.StoreKeyError.{StoreKeyError}
 use Rattle.storage.specs.Contents.{Contents, same, without}
-use Rattle.storage.specs.Erasures.{KeyRow, named, RowRefused, no_key, by_verdict, RowErased, Stopped, ErasedMany}
+use Rattle.storage.specs.Erasures.{KeyRow, named, RowRefused, no_key, by_verdict, RowErased, Stopped}
 use Rattle.storage.specs.Faults.{from_key, at_index}
 use Rattle.storage.specs.Stores.{Wrote}
 use Rattle.storage.specs.Writes.{erase, Ruled, Verdict}
@@ -57,7 +57,7 @@ named_push (x ∷ ws) w k = or_assoc (same k (row_text x)) (named ws k) (same k 
 
 -- the rows before the i-th were erased
 pub record Erased (ws : List Row) (i : ℕ) (c c' : Contents) : Type 0 where
-  pub keys : All KeyRow (take i ws)
+  pub keys : AllByRecursion KeyRow (take i ws)
   pub gone : c' ≡ without (named (take i ws)) c
 
 pub erased_none : (ws : List Row) (c : Contents) → Erased ws 0 c c
@@ -89,5 +89,5 @@ module _ (ws : List Row) (i : ℕ) (d : Row) (c c₁ : Contents) (lt : i < lengt
         refused = q;
       }
 
-pub erased_all : (ws : List Row) (i : ℕ) (c c' : Contents) → length ws ≤ i → Erased ws i c c' → All KeyRow ws × (c' ≡ without (named ws) c)
+pub erased_all : (ws : List Row) (i : ℕ) (c c' : Contents) → length ws ≤ i → Erased ws i c c' → AllByRecursion KeyRow ws × (c' ≡ without (named ws) c)
 erased_all ws i c c' le h = rw (sym (take_all i ws le)) (h.keys, h.gone)

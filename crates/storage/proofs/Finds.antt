@@ -1,5 +1,5 @@
 -- What is found after a value is put, removed or moved.
-use Rattle.std.proofs.Common.{◌≡◌, Bool, true, false, cond, ◌||◌, List, [], ◌∷◌, Some, None, Option, sym, refl, ap, ◌∙◌}
+use Rattle.std.proofs.Common.{◌≡◌, Bool, true, false, cond, ◌||◌, [], ◌∷◌, Some, None, Option, sym, refl, ap, ◌∙◌}
 use Rattle.keys.specs.Text.{Bytes}
 use Rattle.storage.specs.Contents.{Contents, Entry, same, earlier, found, put, without, moved}
 use Rattle.storage.proofs.Order.{clash, same_true, eq_same, ne_same}

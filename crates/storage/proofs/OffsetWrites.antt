@@ -1,8 +1,8 @@
 -- Offset writes: their questions, and what the work buffer comes to.
-use Rattle.std.proofs.Common.{◌≡◌, ℕ, ◌-◌, ◌≤◌, Bool, true, false, cond, List, [], ◌∷◌, length, take, is_ok, Some, None, Ok, Err, Option, Result, sym, refl, ap, ◌∙◌, arith}
+use Rattle.std.proofs.Common.{◌≡◌, ℕ, ◌-◌, ◌≤◌, Bool, true, false, List, [], ◌∷◌, length, take, is_ok, Some, None, Ok, Err, Option, Result, sym, refl, ap, ◌∙◌, arith}
 use Rattle.storage.specs.declared.fault.Fault.{Fault}
 use Rattle.storage.specs.Faults.{answered, fault_of}
-use Rattle.storage.specs.Writes.{Write, set, patch, patched, patch_no, worked, Verdict, Asked, Ruled, Settled, OffsetWritten}
+use Rattle.storage.specs.Writes.{set, patch, patched, patch_no, worked, Verdict, Asked, Ruled, Settled, OffsetWritten}
 use Rattle.storage.specs.Contents.{Contents, found, bytes_of}
 use Rattle.storage.specs.Stores.{Wrote, Built}
 use Rattle.storage.specs.declared.storage_sync.ReadableStorageTraits.{Ghosts}

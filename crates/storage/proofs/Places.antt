@@ -1,7 +1,7 @@
 -- Contents that are split at a key's place: what is found, put and removed there.
-use Rattle.std.proofs.Common.{◌≡◌, ℕ, ◌+◌, Bool, true, false, List, [], ◌∷◌, ◌++◌, map, length, Some, None, Option, sym, refl, ap, ◌∙◌, arith}
+use Rattle.std.proofs.Common.{◌≡◌, ℕ, Bool, true, false, [], ◌∷◌, ◌++◌, Some, None, sym, refl, ap, ◌∙◌, arith}
 use Rattle.keys.specs.Text.{Bytes}
-use Rattle.storage.specs.Contents.{Contents, Entry, same, earlier, found, put, without, moved, keys_of, total, all_after, all_before, Gap}
+use Rattle.storage.specs.Contents.{Contents, Entry, same, earlier, found, put, without, moved, keys_of, all_after, all_before, Gap}
 use Rattle.storage.proofs.Order.{same_true, eq_same, same_flip, earlier_apart, earlier_not_back}
 use Rattle.storage.proofs.Finds.{found_skip, found_here, found-put-same, moved_some, without-drop, without_keep}
 use Rattle.storage.proofs.Ascends.{after_parts, before_parts}

@@ -2,7 +2,7 @@
 use Rattle.std.proofs.Common.{◌≡◌, Bool, true, false, ◌++◌, length, take, drop, Decides, sym, refl, ap, ◌∙◌}
 use Rattle.std.proofs.lemmas.List.{take-append-drop, take_at}
 use Rattle.keys.specs.Text.{Bytes, Begins}
-use Rattle.storage.specs.Contents.{same, under}
+use Rattle.storage.specs.Contents.{under}
 use Rattle.storage.proofs.Order.{clash, same_true, eq_same}
 
 pub begins_from_under : (p k : Bytes) → under p k ≡ true → Begins k p

@@ -1,11 +1,11 @@
 -- How many keys and bytes there are once a value is put.
-use Rattle.std.proofs.Common.{◌≡◌, ℕ, ◌+◌, ◌≤◌, Bool, true, false, List, [], ◌∷◌, length, Some, None, Option, sym, refl, ap, ◌∙◌, arith}
+use Rattle.std.proofs.Common.{◌≡◌, ℕ, ◌+◌, ◌≤◌, Bool, true, false, [], ◌∷◌, length, Some, None, Option, sym, refl, ap, ◌∙◌, arith}
 use Rattle.keys.specs.Text.{Bytes}
 use Rattle.storage.specs.Contents.{Contents, Entry, same, earlier, found, put, without, keys_of, total, all_after, ascending, Ascending}
 use Rattle.storage.proofs.Order.{same_true, eq_same, same_flip, earlier_back}
 use Rattle.storage.proofs.Finds.{found_skip, found_here, found_gone, without-drop, without_keep}
 use Rattle.storage.proofs.Ascends.{ascending_parts, ascending-without, after_cons, after_trans}
-use Rattle.storage.proofs.Places.{entry, put_first, put-over, put_past, found_after, without-after}
+use Rattle.storage.proofs.Places.{put_first, put-over, put_past, found_after, without-after}
 
 none_some : {A : Type 0} {b : Bytes} → ◌≡◌ {A = Option Bytes} None (Some b) → A
 none_some e = let z : ◌≡◌ {A = ℕ} 0 1 = cc in absurd (omega arith)

@@ -5,7 +5,7 @@
 --   put k v c                  v under k, in place of the value there or at k's place in the order
 --   without t c                the entries whose key fails the test t
 --   moved a b c                a's value under b in place of the one there, and no longer under a
---   keys_of, total              the keys; the bytes of all values
+--   keys_of, total             the keys; the bytes of all values
 --   Ascending, Sound           each key before those behind it; also lawful keys, and fewer than 2^63 keys and bytes
 use Rattle.std.specs.Prelude.{◌≡◌, ℕ, ◌+◌, ◌^◌, ◌<◌, ◌≤◌, Bool, true, false, ◌&&◌, List, [], ◌∷◌, map, length, take, Some, None, Option}
 use Rattle.std.specs.Option.{option_map, unwrap_or}

@@ -3,8 +3,8 @@
 --   named ws k                 k is the text of one of the rows
 --   RowRefused, RowErased      why the erasure of one row is refused; what it leaves
 --   Stopped, ErasedMany        refused at a row, those before it being erased; the whole call
-use Rattle.std.specs.Prelude.{◌≡◌, ℕ, ◌≤◌, Bool, true, false, ◌||◌, List, [], ◌∷◌, ◌++◌, length, is_ok, IfErr, Some, Err, Result}
-use Rattle.std.specs.List.{AllByRecursion as All}
+use Rattle.std.specs.Prelude.{◌≡◌, ◌≤◌, Bool, true, false, ◌||◌, List, [], ◌∷◌, ◌++◌, length, is_ok, IfErr, Some, Err, Result}
+use Rattle.std.specs.List.{AllByRecursion}
 use Rattle.keys.specs.Text.{Bytes, KeyText}
 use Rattle.keys.specs.Rows.{row_text, AsKey}
 use Rattle.keys.specs.declared.row.Row.{Row}
@@ -40,11 +40,11 @@ pub record Stopped (ws : List Row) (f : Fault) (c c' : Contents) (v' : Verdict) 
   pub cause : Fault
   pub parts : ws ≡ before ++ (row ∷ behind)
   pub index : f ≡ at_index (length before) cause
-  pub keys : All KeyRow before
+  pub keys : AllByRecursion KeyRow before
   pub erased : c' ≡ without (named before) c
   pub refused : RowRefused row v' cause
 
 -- every store: accepted, all rows are keys, and are gone; a tidy store: refused, it stopped at a row
 pub record ErasedMany {S A : Type 0} (m : Ghosts S) (ws : List Row) (r : Result A Fault) (s s' : S) : Type 0 where
-  pub accepted : is_ok r ≡ true → All KeyRow ws × (m.contents s' ≡ without (named ws) (m.contents s))
+  pub accepted : is_ok r ≡ true → AllByRecursion KeyRow ws × (m.contents s' ≡ without (named ws) (m.contents s))
   pub tidily : m.tidy ≡ true → IfErr r (λ f. Stopped ws f (m.contents s) (m.contents s') (m.verdict s'))

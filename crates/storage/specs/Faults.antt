@@ -21,12 +21,12 @@ number cause.Device = 10
 number cause.Root = 12
 
 -- a refusal by the called layer itself, of the i-th item, at no step
-abbrev pub field_own : Cause → ℕ → Fault
-field_own c i = record { cause = c; index = i; depth = 0; step = 0 }
+abbrev pub own_at : Cause → ℕ → Fault
+own_at c i = record { cause = c; index = i; depth = 0; step = 0 }
 
 -- the same, of no item
 abbrev pub own : Cause → Fault
-own c = field_own c 0
+own c = own_at c 0
 
 -- a refusal from n layers below, passed up: that much deeper, at most 65,535, and nothing else changed
 abbrev pub raised_by : ℕ → Fault → Fault
@@ -54,7 +54,7 @@ from_range e = own (cause.Range e)
 
 -- by number and index, a range fault held whole
 abbrev pub fault_of : Refusal → Fault
-fault_of q = field_own (elim q.fault [ Some e ↦ cause.Range e | None ↦ cond (q.number == 6) cause.Limit cause.Short ]) q.index
+fault_of q = own_at (elim q.fault [ Some e ↦ cause.Range e | None ↦ cond (q.number == 6) cause.Limit cause.Short ]) q.index
 
 -- the answer, unless a question was answered no
 abbrev pub answered : {A : Type 0} → Option Refusal → A → Result A Fault

@@ -4,3 +4,4 @@ pub mod Readings
 pub mod Writes
 pub mod Stores
 pub mod Erasures
+pub mod Examples

@@ -1,8 +1,8 @@
 -- What readings answer.
---   deepened n r               an answer whose refusal comes from n layers below
---   read_answer v rs space n    the answer to a reading of the ranges rs of the value v, which may be absent, into that much space and so many notes
---   read_bytes, read_notes       what it puts at the front of the output and of the notes
---   RangesRead, ValueRead, RangeRead   readings of ranges, of the whole value, of one range
+--   deepened n r                      an answer whose refusal comes from n layers below
+--   read_answer v rs space n          the answer to a reading of the ranges rs of the value v, which may be absent, into that much space and so many notes
+--   read_bytes, read_notes            what it puts at the front of the output and of the notes
+--   RangesRead, ValueRead, RangeRead  readings of ranges, of the whole value, of one range
 use Rattle.std.specs.Prelude.{◌≡◌, ℕ, cond, List, [], length, is_ok, Some, None, Ok, Err, Option, Result}
 use Rattle.keys.specs.Text.{Bytes}
 use Rattle.ranges.specs.declared.byte_range.ByteRange.{ByteRange}

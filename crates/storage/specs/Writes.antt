@@ -3,8 +3,8 @@
 --   after b w c                the contents that it leaves; b tells whether offset writes are made in place
 --   Verdict                    for each write the fault that it would get now, or none
 --   Settled                    what the answer of a write says of contents and verdict
---   patch_no, OffsetWritten     the questions of an offset write; what its answer says, of the work buffer too
-use Rattle.std.specs.Prelude.{◌≡◌, ℕ, Bool, true, false, cond, List, [], ◌∷◌, length, is_ok, Some, None, Err, Option, Result, MatchResult}
+--   patch_no, OffsetWritten    the questions of an offset write; what its answer says, of the work buffer too
+use Rattle.std.specs.Prelude.{◌≡◌, ℕ, Bool, true, false, List, [], ◌∷◌, length, is_ok, Some, None, Err, Option, Result, MatchResult}
 use Rattle.keys.specs.Text.{Bytes}
 use Rattle.patches.specs.declared.Patch.{Patch}
 use Rattle.ranges.specs.Buffers.{fronted}

@@ -1,4 +1,5 @@
 //! Tests of stores, layers and exports.
+#![tactic(auto)]
 
 #[cfg(test)]
 mod exports;

@@ -1,4 +1,5 @@
 //! Tests of offset writes, partial readings and erasures of many keys.
+#![tactic(auto)]
 
 #[cfg(test)]
 mod erasures;

@@ -1,4 +1,4 @@
-use Rattle.std.proofs.Common.{refl, arith, rules}
+use Rattle.std.proofs.Common.{refl, arith}
 use Rattle.storage.specs.Contents.{all_before}
 use Rattle.memory_store.specs.Slots.{slot_keys}
 use Rattle.memory_store.proofs.Finding.{none_behind, all_before_lem, all_after_lem, found_here}

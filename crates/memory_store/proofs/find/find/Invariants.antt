@@ -1,4 +1,4 @@
-use Rattle.std.proofs.Common.{◌≡◌, ℕ, ◌-◌, ◌<◌, ◌≤◌, true, length, take, drop}
+use Rattle.std.proofs.Common.{◌≡◌, ◌-◌, ◌≤◌, true, length, take, drop}
 use Rattle.keys.specs.StoreKeys.{text}
 use Rattle.storage.specs.Contents.{all_before, all_after}
 use Rattle.memory_store.specs.Slots.{slot_keys}

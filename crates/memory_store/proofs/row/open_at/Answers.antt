@@ -4,4 +4,4 @@ use Rattle.memory_store.proofs.row.open_at.Goals as goal
 
 pub returns : goal.returns
 returns c =
-    overwritten _ _ _ _ _ c.args.at _ (omega arith) c.copy-from-slice.ensures.after c.shift-up.ensures.front c.shift-up.ensures.back
+    overwritten _ _ _ _ _ c.args.at _ (omega arith) c.copy_from_slice.ensures.after c.shift_up.ensures.front c.shift_up.ensures.back

@@ -10,21 +10,21 @@ use Rattle.memory_store.proofs.table.remove.Goals as goal
 
 pub returns-in-Ok : goal.returns-in-Ok
 returns-in-Ok c =
-    let there = c.take-out.ensures.value ∙ ap (λ (xs : List Slot). get_or xs c.in-Ok.i c.take-out.result) (sym c.as-slice.ensures.value) in
-    let key = c.in-Ok.ensures.1 c.take-out.result there in
+    let there = c.take_out.ensures.value ∙ ap (λ (xs : List Slot). get_or xs c.in-Ok.i c.take_out.result) (sym c.as_slice.ensures.value) in
+    let key = c.in-Ok.ensures.1 c.take_out.result there in
     record {
       table =
           record {
-            packed = c.take-out.ensures.packed;
+            packed = c.take_out.ensures.packed;
             few = omega arith;
             small = omega arith;
             slots_reserved = omega arith;
             row_reserved = omega arith;
           };
-      contents = c.take-out.ensures.contents ∙ ap (λ (k : Bytes). without (λ j. same j k) (tabled c.args.slots.now c.args.row.now)) key;
+      contents = c.take_out.ensures.contents ∙ ap (λ (k : Bytes). without (λ j. same j k) (tabled c.args.slots.now c.args.row.now)) key;
     }
 
-pub returns-in-default : goal.returns-in-default
-returns-in-default c =
-    let gap = subst (λ (xs : List Slot). GapAt (text c.args.key.now) c.in-default.field-0 xs) c.as-slice.ensures.value c.in-default.ensures.1 in
-    record { table = c.requires; contents = sym (absent_kept _ _ c.in-default.field-0 _ refl c.requires.packed _ gap) }
+pub returns-in_default : goal.returns-in_default
+returns-in_default c =
+    let gap = subst (λ (xs : List Slot). GapAt (text c.args.key.now) c.in_default.field-0 xs) c.as_slice.ensures.value c.in_default.ensures.1 in
+    record { table = c.requires; contents = sym (absent_kept _ _ c.in_default.field-0 _ refl c.requires.packed _ gap) }

@@ -1,4 +1,4 @@
-use Rattle.std.proofs.Common.{◌+◌, sym, refl, ap, ◌∙◌, arith}
+use Rattle.std.proofs.Common.{◌+◌, refl, arith}
 use Rattle.memory_store.specs.Slots.{lens}
 use Rattle.memory_store.specs.Cuts.{lens_more, lens-take}
 use Rattle.memory_store.proofs.table.start_of.Goals as goal
@@ -7,8 +7,8 @@ pub loop-j-init : goal.loop-j-init
 unfolding lens
 loop-j-init c = refl
 
-pub overflow-add-at : goal.overflow-add-at
-overflow-add-at c =
+pub overflow_add-at : goal.overflow_add-at
+overflow_add-at c =
     omega (
       arith,
       c.loop-j.invariant,

@@ -3,4 +3,4 @@ use Rattle.storage.proofs.Readings.{value_read_lem}
 use Rattle.storage.proofs.reads.get.Goals as goal
 
 pub returns : goal.returns
-returns g c = value_read_lem _ _ _ _ _ _ _ refl c.get-partial-many.ensures
+returns g c = value_read_lem _ _ _ _ _ _ _ refl c.get_partial_many.ensures

@@ -2,13 +2,13 @@ use Rattle.std.proofs.lemmas.Result.{err_from_is_err_and}
 use Rattle.storage.proofs.Readings.{one-refused, one_read, one-unfit}
 use Rattle.storage.proofs.reads.get_partial.Goals as goal
 
-pub returns-in-err-read : goal.returns-in-err-read
-returns-in-err-read g c =
-    let p = err_from_is_err_and c.from-residual.result c.from-residual.ensures.1 in
-    rw (p.1, p.2) (one-refused _ _ _ _ _ _ _ c.in-err-read.ensures)
+pub returns-in_err-read : goal.returns-in_err-read
+returns-in_err-read g c =
+    let p = err_from_is_err_and c.from_residual.result c.from_residual.ensures.1 in
+    rw (p.1, p.2) (one-refused _ _ _ _ _ _ _ c.in_err-read.ensures)
 
 pub returns-in-Bytes : goal.returns-in-Bytes
-returns-in-Bytes g c = one_read _ _ _ _ _ _ _ _ c.in-ok-read.ensures c.in-Bytes.is
+returns-in-Bytes g c = one_read _ _ _ _ _ _ _ _ c.in_ok-read.ensures c.in-Bytes.is
 
 pub returns-in-Fault : goal.returns-in-Fault
-returns-in-Fault g c = one-unfit _ _ _ _ _ _ _ _ _ c.in-ok-read.ensures c.in-Fault.is c.from.ensures
+returns-in-Fault g c = one-unfit _ _ _ _ _ _ _ _ _ c.in_ok-read.ensures c.in-Fault.is c.from.ensures

@@ -7,13 +7,13 @@ pub loop-i-init : goal.loop-i-init
 loop-i-init g c = erased_none c.args.rows.now _
 
 pub loop-i-preserved : goal.loop-i-preserved
-loop-i-preserved g c = erased_more c.args.rows.now c.loop-i.i _ _ _ c.loop-i-test.true c.loop-i.invariant _ (c.in-default.ensures.accepted refl)
+loop-i-preserved g c = erased_more c.args.rows.now c.loop-i.i _ _ _ c.loop-i-test.true c.loop-i.invariant _ (c.in_default.ensures.accepted refl)
 
 pub returns-in-Err : goal.returns-in-Err
 returns-in-Err g c =
     record {
       accepted = λ e. clash false e refl;
-      tidily = λ t. erased_stopped c.args.rows.now c.loop-i.i _ _ _ c.loop-i-test.true c.loop-i.invariant c.in-Err.f _ _ _ (c.in-Err.ensures.tidily t) c.at-index.ensures;
+      tidily = λ t. erased_stopped c.args.rows.now c.loop-i.i _ _ _ c.loop-i-test.true c.loop-i.invariant c.in-Err.f _ _ _ (c.in-Err.ensures.tidily t) c.at_index.ensures;
     }
 
 pub returns : goal.returns

@@ -6,4 +6,4 @@ use Rattle.memory_store.proofs.memory_store.writable.MemoryStoreWritableStorageT
 
 pub returns : goal.returns
 returns c =
-    accepted _ _ (erase_prefix (prefix_text c.args.prefix.now)) refl tt (table-room _ _ c.remove-prefix.ensures.table) c.remove-prefix.ensures.contents
+    accepted _ _ (erase_prefix (prefix_text c.args.prefix.now)) refl tt (table-room _ _ c.remove_prefix.ensures.table) c.remove_prefix.ensures.contents
