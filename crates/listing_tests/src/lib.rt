@@ -1,4 +1,5 @@
 //! Tests of listings, sizes and children.
+#![tactic(auto)]
 
 #[cfg(test)]
 mod children;

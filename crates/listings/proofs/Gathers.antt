@@ -1,6 +1,6 @@
 -- What is gathered of more and more keys.
 use Rattle.std.proofs.Common.{◌≡◌, ℕ, ◌+◌, ◌-◌, ◌<◌, ◌≤◌, true, ◌⊎◌, List, [], ◌∷◌, ◌++◌, length, get_or, take, Some, None, Option, Ordering, Less, Equal, Greater, sym, refl, ap, ◌∙◌, subst, inl, inr, ⊎_elim, append-nil, arith}
-use Rattle.std.specs.List.{slice_get, ContainsAt as Has, AllByRecursion as All}
+use Rattle.std.specs.List.{slice_get, ContainsAt as Has, AllByRecursion}
 use Rattle.std.specs.Ordering.{is_lt}
 use Rattle.std.specs.List.Sorted.{IsStrictlySortedBy}
 use Rattle.std.proofs.ByRecursion.{All-weaker, all_has_itself, has_append_left, has_get_or, has_push, has_push_cases}
@@ -38,7 +38,7 @@ less_from_earlier a b h = go (compare_bytes a b) h
     go Equal h = clash _ h refl
     go Greater h = clash _ h refl
 
-all_later : (k : Bytes) (ks : List Bytes) → all_after k ks ≡ true → All (λ j. compare_bytes k j ≡ Less) ks
+all_later : (k : Bytes) (ks : List Bytes) → all_after k ks ≡ true → AllByRecursion (λ j. compare_bytes k j ≡ Less) ks
 all_later k [] h = tt
 all_later k (j ∷ js) h = let p = after_parts k j js h in (less_from_earlier k j p.0, all_later k js p.1)
 
@@ -92,7 +92,7 @@ chosen_order DirectKeys p j k t u l x y = inr ((λ i. compare_bytes (x.0 i) (y.0
 chosen_order Prefixes p j k t u l x y = extends_order p j k t u x y l
 chosen_order Children p j k t u l x y = extends_order p j k t u x.0 y.0 l
 
-sorted_push : (ts : List Bytes) (t : Bytes) → IsStrictlySortedBy compare_bytes ts → All (λ u. compare_bytes u t ≡ Less) ts → IsStrictlySortedBy compare_bytes (ts ++ (t ∷ []))
+sorted_push : (ts : List Bytes) (t : Bytes) → IsStrictlySortedBy compare_bytes ts → AllByRecursion (λ u. compare_bytes u t ≡ Less) ts → IsStrictlySortedBy compare_bytes (ts ++ (t ∷ []))
 sorted_push ts t s a = sorted_insert compare_bytes ts [] t (subst (IsStrictlySortedBy compare_bytes) (sym (append-nil ts)) s) a tt
 
 -- one more key, which comes after all before

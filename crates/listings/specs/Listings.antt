@@ -4,10 +4,10 @@
 --   Beneath, DirectKey         a text that begins with a prefix and has no slash after it; a stored key that does
 --   Extends, ChildPrefix       a prefix, a component and a slash, which a key begins with; which a stored key begins with
 --   Reserved, Child            a component begins with two underscores; a child prefix of which none does
---   row_for                     the row of a text, with zeros behind it
+--   row_for                    the row of a text, with zeros behind it
 --   Listed P                   what a listing of the texts of which P holds answers, and what its rows hold then
 --   DirListed                  the same of a listing of keys and prefixes
---   size_under                  the bytes of the values under keys that begin with a prefix
+--   size_under                 the bytes of the values under keys that begin with a prefix
 use Rattle.std.specs.Prelude.{◌≡◌, ℕ, ◌<◌, cond, List, [], ◌∷◌, ◌++◌, map, length, is_ok, filter, Result}
 use Rattle.std.specs.List.Sorted.{IsStrictlySortedBy}
 use Rattle.std.specs.List.{ContainsAt as Has}

@@ -1,4 +1,5 @@
 //! Listings and sizes, written once over the interface.
+#![tactic(auto)]
 
 mod gather;
 pub mod listing;

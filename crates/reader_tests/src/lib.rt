@@ -1,4 +1,5 @@
 //! Tests of readers, and of extraction through them.
+#![tactic(auto)]
 
 #[cfg(test)]
 mod extracts;

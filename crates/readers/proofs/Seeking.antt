@@ -1,5 +1,5 @@
 -- Laws of seeks to the first byte of an item.
-use Rattle.std.proofs.Common.{◌≡◌, ℕ, ◌+◌, ◌-◌, ◌^◌, ◌<◌, Bool, true, false, cond, ltb, leb, length, ℤ, pos, negsuc, ◌+ℤ◌, neg_ℤ, Some, None, Ok, Err, Option, Result, unwrap_or, refl, ap, ◌∙◌, arith}
+use Rattle.std.proofs.Common.{◌≡◌, ℕ, ◌-◌, ◌^◌, ◌<◌, Bool, true, false, cond, ltb, leb, length, ℤ, pos, negsuc, ◌+ℤ◌, neg_ℤ, Some, None, Ok, Err, Option, Result, unwrap_or, refl, ap, ◌∙◌, arith}
 use Rattle.std.proofs.lemmas.Int.{ints}
 use Rattle.std.proofs.lemmas.Bool.{leb-true, leb-false, lt-ltb}
 use Rattle.std.specs.Option.{ok_or}

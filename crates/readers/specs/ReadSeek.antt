@@ -2,11 +2,11 @@
 --   read_length r n             how many bytes of a value of n bytes are read for the range r
 --   item_no                     the questions of one item: 13, 9, 14
 --   first_refused               the first item that is refused, with its index
---   item_bytes, places_from      the bytes of items, end to end; their notes
+--   item_bytes, places_from     the bytes of items, end to end; their notes
 --   items_read                  the items that were read
 --   behind, left_at             where reading items leaves a reader; where it is left once one is refused
 --   open_no                     the questions before the items: 6, 5, 13
---   Extracted                  what the call answers, and what output and notes hold then
+--   Extracted                   what the call answers, and what output and notes hold then
 --   extracted_at v rs n k p     where it leaves a reader of the value v that was at p, with room for n bytes and k notes
 use Rattle.std.specs.Prelude.{◌≡◌, ℕ, ◌+◌, ◌-◌, ◌^◌, Bool, cond, not, ◌||◌, List, [], ◌∷◌, ◌++◌, length, take, Some, None, Err, Option, Result, nat_le, nat_lt, slice_index_or}
 use Rattle.std.specs.List.{flat_map}

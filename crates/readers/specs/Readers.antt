@@ -3,9 +3,9 @@
 --   shifted n d                the seek by d from n: 13 unless it starts and finishes there
 --   sought size p from         the answer to a seek from position p, in a value of that size if there is one
 --   reached p r                where the answer r to a seek leaves a reader that was at p
---   part_fault size p n         the store's fault of n bytes from p on that pass the end
---   read_no v p n               the refusal of a read of n bytes from p on, if there is one
---   read_part v p n             those bytes
+--   part_fault size p n        the store's fault of n bytes from p on that pass the end
+--   read_no v p n              the refusal of a read of n bytes from p on, if there is one
+--   read_part v p n            those bytes
 --   advanced p n r             where the answer r to a read of n bytes leaves a reader that was at p
 --   FilledBy                   what a read answers, and what its buffer holds then
 use Rattle.std.specs.Prelude.{◌≡◌, ℕ, ◌+◌, ◌^◌, cond, ◌&&◌, length, take, drop, ℤ, pos, negsuc, ◌+ℤ◌, is_ok, Some, None, Ok, Err, Option, Result, nat_lt}

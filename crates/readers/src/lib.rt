@@ -1,4 +1,5 @@
 //! Readers: a value, or none, with a position. Extraction of byte ranges through a reader.
+#![tactic(auto)]
 
 pub mod read_seek;
 pub mod reader;

@@ -4,7 +4,7 @@ ghost use Rattle.readers.specs.ReaderFaults.{read_number, refused, refused_at, f
 
 use storage::fault::Fault;
 
-/// Why a reader's call was refused. The definition `readNumber` gives each case its number.
+/// Why a reader's call was refused. The definition `read_number` gives each case its number.
 #[derive(Clone, Copy)]
 pub enum ReadCause {
     /// The value does not exist (5).

@@ -1,4 +1,5 @@
 //! Tests of runs.
+#![tactic(auto)]
 
 #[cfg(test)]
 mod cuts;

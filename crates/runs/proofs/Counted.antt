@@ -1,16 +1,16 @@
 -- The second law: the counts.
-use Rattle.std.proofs.Common.{◌≡◌, ℕ, ◌+◌, Bool, true, false, ◌&&◌, ◌||◌, List, [], ◌∷◌, ◌++◌, Some, None, Ok, Err, Option, Result, sym, refl, ap, ◌∙◌, arith}
+use Rattle.std.proofs.Common.{◌≡◌, ℕ, ◌+◌, Bool, true, false, ◌&&◌, ◌||◌, [], ◌∷◌, ◌++◌, None, Ok, Err, sym, refl, ap, ◌∙◌, arith}
 use Rattle.std.proofs.lemmas.Bool.{and_right}
 use Rattle.keys.specs.Text.{Bytes}
-use Rattle.storage.specs.Contents.{Contents, Entry, same, earlier, found, put, without}
+use Rattle.storage.specs.Contents.{Contents, same, earlier, found, put, without}
 use Rattle.storage.proofs.Order.{same_true}
-use Rattle.storage.proofs.Finds.{found_skip, found_here, without_none}
+use Rattle.storage.proofs.Finds.{found_skip, found_here}
 use Rattle.storage.proofs.Places.{entry}
 use Rattle.atomic_write.specs.Exports.{temporary}
 use Rattle.runs.specs.Labels.{is_temporary, Plain}
-use Rattle.runs.specs.Events.{Ask, set, patch, erase, erase_many, erase_prefix, power_on, read, Reply, wrote, patched, told, Event, Run, Every, none, also, done, refused_at, exports, finishing, interrupting, beginning, erases, erased_by}
+use Rattle.runs.specs.Events.{Ask, set, patch, erase, erase_many, erase_prefix, power_on, read, Reply, wrote, patched, told, Event, Run, also, done, refused_at, exports, finishing, interrupting, beginning, erases, erased_by}
 use Rattle.runs.specs.Laws.{one, begun_in, finished_in, erased_in, cleared_in, standing_in}
-use Rattle.runs.specs.Performed.{Performed, Ran, idle, next}
+use Rattle.runs.specs.Performed.{Ran, idle, next}
 use Rattle.runs.proofs.Temporaries.{temporary_test}
 use Rattle.runs.proofs.Steps.{Step, left, ended, begun, step_of}
 use Rattle.runs.proofs.Held.{PlainRun}

@@ -1,15 +1,15 @@
 -- The first law: what a plain label holds.
-use Rattle.std.proofs.Common.{◌≡◌, ℕ, Bool, true, false, cond, ◌&&◌, List, [], ◌∷◌, ◌++◌, Some, None, Option, sym, refl, ap, ◌∙◌, subst, append_assoc, append-nil}
+use Rattle.std.proofs.Common.{◌≡◌, ℕ, Bool, true, false, cond, [], ◌∷◌, ◌++◌, Some, None, Option, sym, refl, ap, ◌∙◌, subst, append_assoc, append-nil}
 use Rattle.std.proofs.lemmas.Bool.{and_right}
 use Rattle.keys.specs.Text.{Bytes}
-use Rattle.storage.specs.Contents.{Contents, same, found, put, without}
+use Rattle.storage.specs.Contents.{Contents, same, found, put}
 use Rattle.storage.proofs.Order.{clash, same_true, same_false}
 use Rattle.storage.proofs.Finds.{found-without, found-put-same, found-put_other}
 use Rattle.atomic_write.specs.Exports.{temporary}
 use Rattle.runs.specs.Labels.{Plain}
 use Rattle.runs.specs.Events.{Ask, set, patch, erase, erase_many, erase_prefix, power_on, read, Reply, Event, Run, Every, none, also, Split, done, exports, making, finishes, erases, erased_by}
 use Rattle.runs.specs.Laws.{Holds, finished, never, erased, Leaves, PlainAsk}
-use Rattle.runs.specs.Performed.{Performed, Ran, idle, next}
+use Rattle.runs.specs.Performed.{Ran, idle, next}
 use Rattle.runs.proofs.Temporaries.{plain_apart}
 use Rattle.runs.proofs.Steps.{Step, left, ended, begun, step_of}
 

@@ -8,7 +8,7 @@ use Rattle.keys.specs.Text.{Bytes, slash, Begins}
 use Rattle.keys.specs.declared.row.Row.{Row}
 use Rattle.ranges.specs.declared.byte_range.ByteRange.{ByteRange}
 use Rattle.extraction.specs.declared.Note.{Note}
-use Rattle.storage.specs.Contents.{Contents, Entry, under, found, bytes_of, without, keys_of, total, sized}
+use Rattle.storage.specs.Contents.{Contents, under, found, bytes_of, without, keys_of, total, sized}
 use Rattle.storage.specs.Readings.{read_bytes, read_notes, range_bytes, ValueRead, RangeRead, RangesRead}
 use Rattle.storage.specs.declared.fault.Fault.{Fault}
 use Rattle.storage.specs.Faults.{answered}
@@ -16,12 +16,12 @@ use Rattle.storage.proofs.Order.{clash}
 use Rattle.storage.proofs.Prefixes.{under_from_begins}
 use Rattle.ranges.specs.Buffers.{fronted}
 use Rattle.ranges.specs.Refusals.{first_no, room}
-use Rattle.listings.specs.Listings.{row_for, Exactly, TheList, Stored, StoredUnder, DirectKey, ChildPrefix, Beneath, Extends, Listed, DirListed, size_under}
+use Rattle.listings.specs.Listings.{row_for, Exactly, TheList, Stored, StoredUnder, Extends, Listed, DirListed, size_under}
 use Rattle.listings.specs.declared.listing.StoreKeysPrefixes.{StoreKeysPrefixes}
 use Rattle.runs.specs.Labels.{within}
-use Rattle.runs.specs.Events.{Reading, size_key, get, get_partial, get_partial_many, key_at, list, list_prefix, list_dir, size_prefix, size, Readout, size_is, total_is, key_is, bytes_read, ranges_read, rows_listed, dir_listed}
+use Rattle.runs.specs.Events.{Reading, size_key, get, get_partial, get_partial_many, key_at, list, list_prefix, list_dir, size_prefix, size, Readout, size_is, total_is, bytes_read, ranges_read, rows_listed, dir_listed}
 use Rattle.runs.specs.Laws.{place_of}
-use Rattle.runs.specs.Readings.{zeros, blank_notes, blank_rows, Reads}
+use Rattle.runs.specs.Readings.{zeros, blank_notes, Reads}
 use Rattle.runs.proofs.Within.{found_within, within-within, within_root, root_only, under_trans}
 
 -- one answer to a question

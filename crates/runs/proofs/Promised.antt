@@ -1,14 +1,13 @@
 -- What runs promise, of performed calls.
-use Rattle.std.proofs.Common.{◌≡◌, ℕ, Bool, true, List, [], ◌∷◌, ◌++◌, sym, refl, ap, ◌∙◌, subst, append_assoc, append-nil}
-use Rattle.keys.specs.Text.{Bytes, PrefixText}
+use Rattle.std.proofs.Common.{◌≡◌, ℕ, Bool, List, [], ◌∷◌, ◌++◌, sym, refl, ap, ◌∙◌, subst, append_assoc, append-nil}
 use Rattle.storage.specs.Contents.{Contents, Ascending, ascending}
 use Rattle.runs.specs.declared.call.Call.{Call}
 use Rattle.runs.specs.declared.call.Answer.{Answer}
 use Rattle.runs.specs.Labels.{within}
-use Rattle.runs.specs.Events.{Event, Run, Every, none, also, Split, events}
+use Rattle.runs.specs.Events.{Event, Run, none, also, events}
 use Rattle.runs.specs.Laws.{PlainCalls, Lawful}
 use Rattle.runs.specs.Performed.{Performed, Ran, idle, next}
-use Rattle.runs.specs.Runs.{Reached, Told, Whole, RunLaws, TwoRunLaws}
+use Rattle.runs.specs.Runs.{Reached, Whole, RunLaws, TwoRunLaws}
 use Rattle.runs.proofs.Held.{PlainRun}
 use Rattle.runs.proofs.Loops.{ran_on}
 use Rattle.runs.proofs.Replies.{performed_answers, answers_performed}

@@ -1,5 +1,5 @@
 -- An export that the power fails between its steps.
-use Rattle.std.proofs.Common.{◌≡◌, ℕ, true, false, [], ◌∷◌, refl}
+use Rattle.std.proofs.Common.{refl}
 use Rattle.storage.specs.Contents.{same, earlier, found, put}
 use Rattle.keys.specs.ByteOrder.{compare_bytes}
 use Rattle.layers.specs.Countdown.{counted}
@@ -8,8 +8,8 @@ use Rattle.storage.specs.declared.fault.Cause.TheVariants.{Device, Exists}
 use Rattle.atomic_write.specs.Exports.{temporary}
 use Rattle.runs.specs.Labels.{is_temporary}
 use Rattle.runs.specs.Laws.{begun_in, finished_in, standing_in, cleared_in, erased_in}
-use Rattle.runs.specs.Performed.{refused, unfinished, Ran, idle, next}
-use Rattle.runs.specs.RunExamples.{RunExamples, cut_run, cut_leaves}
+use Rattle.runs.specs.Performed.{refused, unfinished, idle, next}
+use Rattle.runs.specs.RunExamples.{RunExamples}
 
 pub run_examples : RunExamples
 unfolding counted begun_in finished_in standing_in cleared_in erased_in is_temporary temporary same earlier found put compare_bytes

@@ -1,7 +1,6 @@
 -- The third law: what lies under a prefix, and the answers there, follow from the calls that touch it.
-use Rattle.std.proofs.Common.{◌≡◌, ℕ, ◌+◌, ◌≤◌, min, Bool, true, false, cond, not, ◌&&◌, ◌||◌, eqb, List, [], ◌∷◌, ◌++◌, map, take, is_some, Some, None, Ok, Err, filter, Option, Result, sym, refl, ap, ◌∙◌, subst, append_assoc, arith}
+use Rattle.std.proofs.Common.{◌≡◌, ℕ, Bool, true, false, cond, ◌||◌, List, [], ◌∷◌, ◌++◌, is_some, Some, None, Ok, Err, filter, Option, Result, sym, refl, ap, ◌∙◌, subst, append_assoc, arith}
 use Rattle.std.proofs.lemmas.List.Elements.{filter-append}
-use Rattle.std.proofs.lemmas.Bool.{ne_eqb, or_parts}
 use Rattle.std.specs.List.{flat_map}
 use Rattle.keys.specs.Text.{Bytes, PrefixText}
 use Rattle.keys.specs.Rows.{row_text}
@@ -11,15 +10,14 @@ use Rattle.patches.specs.Patches.{laid_all}
 use Rattle.patches.specs.declared.Patch.{Patch}
 use Rattle.storage.specs.Contents.{Contents, same, under, found, bytes_of, put, without, Ascending}
 use Rattle.storage.specs.Erasures.{named}
-use Rattle.storage.specs.Faults.{raised, at_step}
 use Rattle.storage.specs.declared.fault.Fault.{Fault}
-use Rattle.storage.proofs.Order.{clash, same_true, eq_same}
+use Rattle.storage.proofs.Order.{clash, same_true}
 use Rattle.storage.proofs.Ascends.{ascending-without}
-use Rattle.storage.proofs.Finds.{without_none, without-same, without_both}
+use Rattle.storage.proofs.Finds.{without_none, without_both}
 use Rattle.atomic_write.specs.Exports.{temporary, temporary_no, or_else, standing_no, export_no, patch_export_no}
 use Rattle.runs.specs.Labels.{within}
-use Rattle.runs.specs.Events.{Ask, set, patch, erase, erase_many, erase_prefix, power_on, read, Reply, wrote, patched, told, Readout, Event, Run, Every, none, also, reached, erased_by}
-use Rattle.runs.specs.Laws.{touches, erasures, counts_as, touching, asks_of, Alike, deep, refused_below, Unrefused, SameOn, place_of}
+use Rattle.runs.specs.Events.{Ask, set, patch, erase, erase_many, erase_prefix, power_on, read, Reply, wrote, patched, told, Readout, Event, Run, also, reached}
+use Rattle.runs.specs.Laws.{touches, erasures, counts_as, touching, asks_of, Alike, deep, refused_below, Unrefused, SameOn}
 use Rattle.runs.specs.Performed.{ExportLeft, refused, unbegun, unfinished, finished, PatchLeft, asked, tried, EraseLeft, erased, kept, ManyLeft, all, stopped, Performed, Ran, idle, next}
 use Rattle.runs.specs.Readings.{zeros, Reads}
 use Rattle.runs.proofs.Temporaries.{under-temporary}

@@ -12,12 +12,12 @@ use Rattle.patches.specs.declared.Patch.{Patch}
 use Rattle.storage.specs.Contents.{Contents, same, found, bytes_of, put, without}
 use Rattle.storage.specs.Erasures.{named}
 use Rattle.storage.specs.Faults.{own, from_key, fault_of}
-use Rattle.storage.specs.declared.fault.Cause.TheVariants.{Root, Exists}
+use Rattle.storage.specs.declared.fault.Cause.TheVariants.{Root}
 use Rattle.storage.specs.declared.fault.Fault.{Fault}
 use Rattle.storage.proofs.Finds.{without_none, without-same}
 use Rattle.atomic_write.specs.Exports.{temporary, temporary_no, or_else, standing_no, export_no, patch_export_no}
 use Rattle.runs.specs.Labels.{Plain}
-use Rattle.runs.specs.Events.{Ask, set, patch, erase, erase_many, erase_prefix, power_on, read, Reply, wrote, patched, told, Event, accepted, fault_at, done, refused_at, exports, making, finishing, interrupting, erased_by, erases}
+use Rattle.runs.specs.Events.{Ask, set, patch, erase, erase_many, erase_prefix, power_on, read, Reply, wrote, patched, Event, accepted, fault_at, done, refused_at, exports, making, finishing, interrupting, erased_by, erases}
 use Rattle.runs.specs.Laws.{PlainAsk}
 use Rattle.runs.specs.Performed.{ExportLeft, refused, unbegun, unfinished, finished, PatchLeft, asked, tried, EraseLeft, erased, kept, ManyLeft, all, stopped, Performed}
 

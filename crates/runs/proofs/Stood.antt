@@ -1,15 +1,15 @@
 -- The second law: what stands at a label's temporary.
-use Rattle.std.proofs.Common.{◌≡◌, ℕ, Bool, true, false, cond, ◌||◌, List, [], ◌∷◌, ◌++◌, Some, None, Option, sym, refl, ap, ◌∙◌, subst, append_assoc, append-nil, arith}
+use Rattle.std.proofs.Common.{◌≡◌, ℕ, Bool, true, false, cond, ◌||◌, [], ◌∷◌, ◌++◌, Some, None, Option, sym, refl, ap, ◌∙◌, subst, append_assoc, append-nil, arith}
 use Rattle.std.proofs.lemmas.Bool.{or_parts, or_from}
 use Rattle.keys.specs.Text.{Bytes}
 use Rattle.storage.specs.Contents.{Contents, same, found, put}
-use Rattle.storage.proofs.Order.{same_true, same_false}
+use Rattle.storage.proofs.Order.{same_true}
 use Rattle.storage.proofs.Finds.{found-without, found-put-same, found-put_other}
 use Rattle.atomic_write.specs.Exports.{temporary}
 use Rattle.runs.specs.Labels.{Plain}
 use Rattle.runs.specs.Events.{Event, Run, Every, none, also, making, finishes, interrupts, begins, erases, erased_by}
 use Rattle.runs.specs.Laws.{Holds, Stands}
-use Rattle.runs.specs.Performed.{Performed, Ran, idle, next}
+use Rattle.runs.specs.Performed.{Ran, idle, next}
 use Rattle.runs.proofs.Temporaries.{temporary_apart, temporary_ne}
 use Rattle.runs.proofs.Steps.{Step, left, ended, begun, step_of}
 use Rattle.runs.proofs.Held.{PlainRun, held, held_after, step_held, every_more, split_more, holds_more, holds_held}

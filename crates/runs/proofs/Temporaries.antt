@@ -4,7 +4,7 @@ use Rattle.std.proofs.lemmas.List.{drop_at, take_at}
 use Rattle.keys.specs.Text.{Bytes, PrefixText}
 use Rattle.keys.specs.Texts.{final_slash, begins_more, begins-suffix}
 use Rattle.storage.specs.Contents.{same, under}
-use Rattle.storage.proofs.Order.{clash, same_true, same_false, eq_same}
+use Rattle.storage.proofs.Order.{clash, same_false, eq_same}
 use Rattle.storage.proofs.Prefixes.{begins_from_under, under_from_begins}
 use Rattle.atomic_write.proofs.Temporaries.{suffix-slash_free}
 use Rattle.atomic_write.specs.Exports.{temporary, suffix}

@@ -1,8 +1,8 @@
 -- The laws fix the contents: two that a run's laws hold of are one.
-use Rattle.std.proofs.Common.{◌≡◌, ℕ, ◌-◌, Bool, true, false, List, [], ◌∷◌, ◌++◌, length, take, drop, Some, None, Option, sym, refl, ap, ◌∙◌, subst}
+use Rattle.std.proofs.Common.{◌≡◌, ◌-◌, Bool, true, false, [], ◌∷◌, ◌++◌, length, take, drop, Some, None, sym, refl, ap, ◌∙◌}
 use Rattle.std.proofs.lemmas.List.{take-append-drop}
 use Rattle.keys.specs.Text.{Bytes}
-use Rattle.storage.specs.Contents.{Contents, Entry, same, earlier, found, keys_of, all_after, ascending, Ascending}
+use Rattle.storage.specs.Contents.{Contents, Entry, same, earlier, found, keys_of, Ascending}
 use Rattle.storage.proofs.Order.{same_true, eq_same, earlier_back}
 use Rattle.storage.proofs.Finds.{found_skip, found_here}
 use Rattle.storage.proofs.Ascends.{after_cons, after_trans, ascending_parts}

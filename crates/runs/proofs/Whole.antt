@@ -1,10 +1,10 @@
 -- The first two laws, of a run that follows one of which they hold.
-use Rattle.std.proofs.Common.{◌≡◌, ℕ, ◌+◌, Bool, List, [], ◌∷◌, ◌++◌, Some, None, Option, sym, refl, ap, ◌∙◌, subst, arith}
+use Rattle.std.proofs.Common.{◌≡◌, ℕ, ◌+◌, Bool, [], ◌++◌, Some, None, Option, sym, refl, ap, ◌∙◌, subst}
 use Rattle.keys.specs.Text.{Bytes}
 use Rattle.storage.specs.Contents.{Contents, found}
 use Rattle.atomic_write.specs.Exports.{temporary}
 use Rattle.runs.specs.Labels.{Plain}
-use Rattle.runs.specs.Events.{Event, Run, Every, none, also}
+use Rattle.runs.specs.Events.{Run, none}
 use Rattle.runs.specs.Laws.{Holds, never, Stands, Lawful, begun_in, finished_in, cleared_in, standing_in, any}
 use Rattle.runs.specs.Performed.{Ran}
 use Rattle.runs.proofs.Held.{PlainRun, held, ran_held, holds_on, holds_held, held_append}

@@ -4,7 +4,7 @@ use Rattle.std.proofs.lemmas.List.{take-take}
 use Rattle.std.proofs.lemmas.Bool.{not-true, not_from_true, not_from_false, or_left, or_right, cases_lt}
 use Rattle.keys.specs.Text.{Bytes}
 use Rattle.keys.specs.Texts.{nil_holds}
-use Rattle.storage.specs.Contents.{Contents, Entry, same, earlier, under, found, put, without, keys_of, all_after, ascending, Ascending}
+use Rattle.storage.specs.Contents.{Contents, same, earlier, under, found, put, without, keys_of, all_after, ascending, Ascending}
 use Rattle.storage.proofs.Order.{clash, same_true, eq_same, earlier_back}
 use Rattle.storage.proofs.Finds.{found_kept, without-same, without_none, without-drop, without_keep, without_both}
 use Rattle.storage.proofs.Ascends.{after_parts, after_cons, after_trans, after-without, ascending_parts, ascending_cons}

@@ -4,7 +4,7 @@
 --   ByRows ws r                all rows are keys, and done; or one is refused, by its index: it is no key, or below
 --   Answers n s a c            a answers s, through n layers, where c is stored
 use Rattle.std.specs.Prelude.{◌≡◌, ℕ, ◌⊎◌, List, ◌∷◌, ◌++◌, length, Some, None, Ok, Err, Option, Result}
-use Rattle.std.specs.List.{AllByRecursion as All}
+use Rattle.std.specs.List.{AllByRecursion}
 use Rattle.keys.specs.Text.{Bytes}
 use Rattle.keys.specs.Rows.{AsKey}
 use Rattle.keys.specs.declared.row.Row.{Row}
@@ -38,9 +38,9 @@ abbrev pub RowFault : Row → ℕ → Fault → Type 0
 RowFault w i f = ((e : StoreKeyError) × AsKey w (Err e) × (f ≡ at_index i (from_key e))) ⊎ (KeyRow w × (g : Fault) × (f ≡ at_index i (raised g)))
 
 abbrev pub ByRows : List Row → Result (Unit {0}) Fault → Type 0
-ByRows ws (Ok u) = All KeyRow ws
+ByRows ws (Ok u) = AllByRecursion KeyRow ws
 ByRows ws (Err f) =
-    (before : List Row) × (w : Row) × (behind : List Row) × (ws ≡ before ++ (w ∷ behind)) × All KeyRow before × RowFault w (length before) f
+    (before : List Row) × (w : Row) × (behind : List Row) × (ws ≡ before ++ (w ∷ behind)) × AllByRecursion KeyRow before × RowFault w (length before) f
 
 abbrev pub Answers : ℕ → Ask → Reply → Contents → Type 0
 Answers n (set k v) a c = (r : Result (Unit {0}) Fault) × (a ≡ wrote r) × FirstNo (export_no k c) r

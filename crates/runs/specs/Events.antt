@@ -2,7 +2,7 @@
 --   Ask, Reading               what a call asks, with its bytes
 --   Reply, Readout             what an answer says, with the bytes in its buffers
 --   Event, Run                 a call with its answer; a list of these, oldest first
---   done, refused_at n          the answer of a write: done; a fault of the step n
+--   done, refused_at n         the answer of a write: done; a fault of the step n
 --   exports t s                s exports a label that passes the test t
 --   making s old               the bytes of the export s, of a label that holds old
 --   finishing t e, interrupting t e, beginning t e
@@ -12,7 +12,7 @@
 --   erases k e                 e erased the key k
 --   Every P h, Split h before e since
 --                              each event of h has P; e is an event of h, after those of before and before those of since
-use Rattle.std.specs.Prelude.{◌≡◌, ℕ, Bool, true, false, ◌&&◌, ◌||◌, List, [], ◌∷◌, ◌++◌, take, Some, None, Ok, Err, vec_items, Option, Result, ◌==◌}
+use Rattle.std.specs.Prelude.{◌≡◌, ℕ, Bool, true, false, ◌&&◌, ◌||◌, List, [], ◌∷◌, ◌++◌, take, Ok, Err, vec_items, Option, Result, ◌==◌}
 use Rattle.std.specs.Option.{option_map}
 use Rattle.keys.specs.Text.{Bytes}
 use Rattle.keys.specs.StoreKeys.{text}

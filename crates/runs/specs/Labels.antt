@@ -1,5 +1,5 @@
 -- Labels: the keys of a store, told apart by whether they end in ".tmp".
---   is_temporary k, Plain k     k ends in ".tmp"; it does not
+--   is_temporary k, Plain k    k ends in ".tmp"; it does not
 --   within p c                 the contents there: the entries of c whose key begins with p
 use Rattle.std.specs.Prelude.{◌≡◌, ◌-◌, Bool, false, not, length, drop}
 use Rattle.keys.specs.Text.{Bytes}

@@ -4,8 +4,8 @@
 --   Performed n s a c c'       the call s through n layers, answered a, found the contents c and left c'
 --   Ran n c h c'               the run h, call by call
 --   Tried m s t t' r           the call s of an adapter over the store t, or want of memory for its answer
-use Rattle.std.specs.Prelude.{◌≡◌, ℕ, suc, Bool, true, List, [], ◌∷◌, ◌++◌, length, Some, None, Ok, Err, Option, Result}
-use Rattle.std.specs.List.{AllByRecursion as All}
+use Rattle.std.specs.Prelude.{◌≡◌, ℕ, suc, Bool, true, List, [], ◌∷◌, ◌++◌, length, Some, None, Ok, Err, Result}
+use Rattle.std.specs.List.{AllByRecursion}
 use Rattle.keys.specs.Text.{Bytes}
 use Rattle.keys.specs.Rows.{AsKey}
 use Rattle.keys.specs.declared.row.Row.{Row}
@@ -57,11 +57,11 @@ pub data RowNo (w : Row) : Fault → Type 0 where
 
 -- an erasure of rows in turn: all are keys, and erased; or one is refused, those before it being keys, and erased
 pub data ManyLeft (ws : List Row) (c c' : Contents) : Reply → Type 0 where
-  all : All KeyRow ws → c' ≡ without (named ws) c → ManyLeft ws c c' (wrote (Ok tt))
+  all : AllByRecursion KeyRow ws → c' ≡ without (named ws) c → ManyLeft ws c c' (wrote (Ok tt))
   stopped :
       (before : List Row) (w : Row) (behind : List Row) (f : Fault)
       → ws ≡ before ++ (w ∷ behind)
-      → All KeyRow before
+      → AllByRecursion KeyRow before
       → RowNo w f
       → c' ≡ without (named before) c
       → ManyLeft ws c c' (wrote (Err (at_index (length before) f)))

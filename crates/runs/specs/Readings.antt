@@ -1,6 +1,6 @@
 -- What readings and listings answer: it follows from the contents there, the layers, and what is asked.
 --   zeros, blank_notes, blank_rows     the buffers that a run makes
---   Reads n q c x              x answers q through n layers, where c is stored
+--   Reads n q c x                      x answers q through n layers, where c is stored
 use Rattle.std.specs.Prelude.{◌≡◌, ℕ, List, [], replicate, Option, Result}
 use Rattle.std.specs.List.{slice_get}
 use Rattle.keys.specs.Text.{Bytes}

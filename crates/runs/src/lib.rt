@@ -1,4 +1,5 @@
 //! Runs of the atomic write adapter's calls.
+#![tactic(auto)]
 
 pub mod call;
 pub mod examples;

@@ -14,8 +14,8 @@ with-tally-requires g c =
     let there = key_there (keys_of held) c.loop-key.n _ c.in-Some.ensures in
     omega (arith, c.loop-key.invariant.1, there.0, length-map held (λ e. e.key), (g.met.S.ReadableStorageTraits.sound c.args.store.now).few)
 
-pub overflow-add-n : goal.overflow-add-n
-overflow-add-n g c =
+pub overflow_add-n : goal.overflow_add-n
+overflow_add-n g c =
     let held = g.S.ReadableStorageTraits.contents c.args.store.now in
     let there = key_there (keys_of held) c.loop-key.n _ c.in-Some.ensures in
     omega (arith, there.0, length-map held (λ e. e.key), (g.met.S.ReadableStorageTraits.sound c.args.store.now).few)
@@ -32,4 +32,4 @@ loop-key-preserved g c =
     c.loop-key.invariant c.pick.ensures c.with-tally.ensures
 
 pub returns : goal.returns
-returns g c = tally_all c.args.selection (prefix_text c.args.prefix.now) _ c.loop-key.n c.loop-key.tally c.in-default.ensures c.loop-key.invariant.2
+returns g c = tally_all c.args.selection (prefix_text c.args.prefix.now) _ c.loop-key.n c.loop-key.tally c.in_default.ensures c.loop-key.invariant.2

@@ -9,8 +9,8 @@ use Rattle.listings.proofs.gather.fill.Goals as goal
 pub loop-key-init : goal.loop-key-init
 loop-key-init g c = ([], gather_nothing c.args.selection (prefix_text c.args.prefix.now), refl, refl, omega arith)
 
-pub overflow-add-n : goal.overflow-add-n
-overflow-add-n g c =
+pub overflow_add-n : goal.overflow_add-n
+overflow_add-n g c =
     let held = g.S.ReadableStorageTraits.contents c.args.store.now in
     let there = key_there (keys_of held) c.loop-key.n _ c.in-Some.ensures in
     omega (arith, there.0, length-map held (λ e. e.key), (g.met.S.ReadableStorageTraits.sound c.args.store.now).few)
@@ -26,4 +26,4 @@ loop-key-preserved g c =
     (g.met.S.ReadableStorageTraits.sound c.args.store.now).ascends c.in-Some.ensures c.requires c.loop-key.invariant c.pick.ensures c.put-len.ensures
 
 pub returns : goal.returns
-returns g c = fill_all c.args.selection (prefix_text c.args.prefix.now) _ c.args.rows.now c.loop-key.n _ _ c.in-default.ensures c.loop-key.invariant
+returns g c = fill_all c.args.selection (prefix_text c.args.prefix.now) _ c.args.rows.now c.loop-key.n _ _ c.in_default.ensures c.loop-key.invariant

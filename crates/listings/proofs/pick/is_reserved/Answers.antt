@@ -2,11 +2,11 @@ use Rattle.std.proofs.Common.{refl, arith}
 use Rattle.storage.proofs.Order.{clash}
 use Rattle.listings.proofs.Children.{reserved_yes, reserved_at, reserved_more}
 use Rattle.listings.proofs.pick.is_reserved.Goals as goal
-use Rattle.listings.proofs.pick.is_reserved.Goals.{else-bytes-i-eq95-via-then-bytes-i-eq95+then-bytes-i-eq95-2+else-begins-component, else-bytes-i-eq95-via-then-bytes-i-eq95+else-bytes-i-eq95-2, else-bytes-i-eq95-via-else-bytes-i-eq95}
+use Rattle.listings.proofs.pick.is_reserved.Goals.{else-bytes-i-eq95-via-then-bytes-i-eq95+then-bytes-i-eq95-2+else-begins_component, else-bytes-i-eq95-via-then-bytes-i-eq95+else-bytes-i-eq95-2, else-bytes-i-eq95-via-else-bytes-i-eq95}
 
-pub returns-then-begins-component : goal.returns-then-begins-component
-returns-then-begins-component c = (
-  λ _. reserved_yes _ c.loop-i.i (omega arith) (omega arith) c.if-bytes-i-eq95.true c.if-bytes-i-eq95-2.true (c.if-begins-component.ensures.0 refl),
+pub returns-then-begins_component : goal.returns-then-begins_component
+returns-then-begins_component c = (
+  λ _. reserved_yes _ c.loop-i.i (omega arith) (omega arith) c.if-bytes-i-eq95.true c.if-bytes-i-eq95-2.true (c.if-begins_component.ensures.0 refl),
   λ _. refl,
 )
 
@@ -15,7 +15,7 @@ loop-i-preserved c =
     reserved_more _ _ c.loop-i.invariant
     (λ a b before.
     elim c.else-bytes-i-eq95.branch [
-      | else-bytes-i-eq95-via-then-bytes-i-eq95+then-bytes-i-eq95-2+else-begins-component w ↦ clash _ (w.if-begins-component.ensures.1 before) refl
+      | else-bytes-i-eq95-via-then-bytes-i-eq95+then-bytes-i-eq95-2+else-begins_component w ↦ clash _ (w.if-begins_component.ensures.1 before) refl
       | else-bytes-i-eq95-via-then-bytes-i-eq95+else-bytes-i-eq95-2 w ↦ w.if-bytes-i-eq95-2.false b
       | else-bytes-i-eq95-via-else-bytes-i-eq95 w ↦ w.if-bytes-i-eq95.false a
     ])

@@ -6,7 +6,7 @@ use Rattle.listings.proofs.Children.{direct_yes, direct_no}
 use Rattle.listings.proofs.pick.pick_direct_key.Goals as goal
 
 pub returns-then-eq : goal.returns-then-eq
-returns-then-eq c = direct_yes _ _ _ _ c.parent.ensures (c.if-eq.ensures.0 refl) c.from-key.ensures
+returns-then-eq c = direct_yes _ _ _ _ c.parent.ensures (c.if-eq.ensures.decides.0 refl) c.from_key.ensures
 
 pub returns-else-eq : goal.returns-else-eq
-returns-else-eq c = direct_no _ _ _ (final_slash _ (prefix_rule c.args.prefix.now)) c.parent.ensures (λ e. clash _ (c.if-eq.ensures.1 e) refl)
+returns-else-eq c = direct_no _ _ _ (final_slash _ (prefix_rule c.args.prefix.now)) c.parent.ensures (λ e. clash _ (c.if-eq.ensures.decides.1 e) refl)

@@ -8,8 +8,8 @@ use Rattle.readers.proofs.read_seek.read_items.Goals as goal
 pub loop-i-init : goal.loop-i-init
 loop-i-init g c = upto_none g.R.Reader _ _ _ _ (c.requires.place ∙ c.requires.size.0)
 
-pub read-item-requires : goal.read-item-requires
-read-item-requires g c =
+pub read_item-requires : goal.read_item-requires
+read_item-requires g c =
     let e = c.loop-i.invariant.place.value in
     record {
       value = still_there g.R.Reader _ _ e c.requires.value;
@@ -17,28 +17,28 @@ read-item-requires g c =
       within = omega (arith, c.loop-i.invariant.within, c.loop-i.auto.out);
     }
 
-pub overflow-add-at : goal.overflow-add-at
-overflow-add-at g c =
-    let e = ok_from_indexed _ _ c.read-item.result c.in-ok-len.ensures in
-    let room = room_more g.R.Reader _ c.args.reader.now c.args.out.now c.args.notes.now _ _ _ _ _ c.loop-i-test.true c.loop-i.auto.out c.loop-i.auto.notes c.loop-i.invariant _ (sym e ∙ c.read-item.ensures.answer) in
+pub overflow_add-at : goal.overflow_add-at
+overflow_add-at g c =
+    let e = ok_from_indexed _ _ c.read_item.result c.in_ok-len.ensures in
+    let room = room_more g.R.Reader _ c.args.reader.now c.args.out.now c.args.notes.now _ _ _ _ _ c.loop-i-test.true c.loop-i.auto.out c.loop-i.auto.notes c.loop-i.invariant _ (sym e ∙ c.read_item.ensures.answer) in
     search rules
 
 pub loop-i-preserved : goal.loop-i-preserved
 loop-i-preserved g c =
-    let e = ok_from_indexed _ _ c.read-item.result c.in-ok-len.ensures in
+    let e = ok_from_indexed _ _ c.read_item.result c.in_ok-len.ensures in
     let u =
     upto-more g.R.Reader _ c.args.reader.now c.args.out.now c.args.notes.now _ _ c.loop-i.reader c.loop-i.out c.loop-i.notes c.loop-i-test.true c.loop-i.auto.out c.loop-i.auto.notes c.loop-i.invariant
-    _ _ _ _ c.requires.size.0 (sym e ∙ c.read-item.ensures.answer) (simp e at c.read-item.ensures.output) (simp e at c.read-item.ensures.place)
+    _ _ _ _ c.requires.size.0 (sym e ∙ c.read_item.ensures.answer) (simp e at c.read_item.ensures.output) (simp e at c.read_item.ensures.place)
     in
-    simp c.bytes-at.ensures u
+    simp c.bytes_at.ensures u
 
-pub returns-in-err-len : goal.returns-in-err-len
-returns-in-err-len g c =
-    let e = err_from_indexed _ _ c.read-item.result c.in-err-len.ensures in
-    let p = err_from_is_err_and c.from-residual.result c.from-residual.ensures.1 in
+pub returns-in_err-len : goal.returns-in_err-len
+returns-in_err-len g c =
+    let e = err_from_indexed _ _ c.read_item.result c.in_err-len.ensures in
+    let p = err_from_is_err_and c.from_residual.result c.from_residual.ensures.1 in
     let u =
     upto-refused g.R.Reader _ c.args.reader.now c.args.out.now c.args.notes.now _ _ c.loop-i.reader c.loop-i.out c.loop-i.notes c.loop-i-test.true c.loop-i.auto.out c.loop-i.auto.notes c.loop-i.invariant
-    _ _ _ _ _ _ c.requires.size.0 (sym e.1 ∙ c.read-item.ensures.answer) (simp e.1 at c.read-item.ensures.output) (simp e.1 at c.read-item.ensures.place) e.2
+    _ _ _ _ _ _ c.requires.size.0 (sym e.1 ∙ c.read_item.ensures.answer) (simp e.1 at c.read_item.ensures.output) (simp e.1 at c.read_item.ensures.place) e.2
     in
     rw (p.1, p.2) (record { read = u.0; place = u.1 })
 

@@ -5,4 +5,4 @@ use Rattle.runs.proofs.Answered.{erase_left}
 use Rattle.runs.proofs.perform.erase_prefix.Goals as goal
 
 pub returns : goal.returns
-returns g c tidy = erase_left g.S.ReadableStorageTraits c.args.adapter.now c.erase-prefix.new.self tidy _ (erase_prefix (prefix_text c.args.prefix.now)) c.erase-prefix.result refl c.erase-prefix.ensures.forwarded
+returns g c tidy = erase_left g.S.ReadableStorageTraits c.args.adapter.now c.erase_prefix.new.self tidy _ (erase_prefix (prefix_text c.args.prefix.now)) c.erase_prefix.result refl c.erase_prefix.ensures.forwarded

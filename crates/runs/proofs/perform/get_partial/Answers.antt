@@ -6,6 +6,6 @@ use Rattle.runs.proofs.perform.get_partial.Goals as goal
 
 pub returns : goal.returns
 returns g c tidy =
-    let out' = c.get-partial-result.new.out in
-    let l : length out' ≡ c.in-ok-out.out.len = omega arith in
-    (_, refl, range_read c.as-mut-slice.result.now (zeros c.args.len) (c.as-mut-slice.ensures.value ∙ c.in-ok-out.ensures.0) (with_items_is c.in-ok-out.out out' l) c.get-partial-result.ensures, refl)
+    let out' = c.get_partial-result.new.out in
+    let l : length out' ≡ c.in_ok-out.out.len = omega arith in
+    (_, refl, range_read c.as_mut_slice.result.now (zeros c.args.len) (c.as_mut_slice.ensures.value ∙ c.in_ok-out.ensures.0) (with_items_is c.in_ok-out.out out' l) c.get_partial-result.ensures, refl)

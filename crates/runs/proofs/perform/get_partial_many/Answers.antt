@@ -6,12 +6,12 @@ use Rattle.runs.proofs.perform.get_partial_many.Goals as goal
 
 pub returns : goal.returns
 returns g c tidy =
-    let out' = c.get-partial-many-result.new.out in
-    let notes' = c.get-partial-many-result.new.notes in
-    let l : length out' ≡ c.in-ok-out.out.len = omega arith in
-    let m : length notes' ≡ c.in-ok-notes.notes.len = omega arith in (
+    let out' = c.get_partial_many-result.new.out in
+    let notes' = c.get_partial_many-result.new.notes in
+    let l : length out' ≡ c.in_ok-out.out.len = omega arith in
+    let m : length notes' ≡ c.in_ok-notes.notes.len = omega arith in (
       _,
       refl,
-      ranges_read_lem c.as-mut-slice.result.now (zeros c.args.len) c.as-mut-slice-2.result.now (blank_notes c.args.notes-len) (c.as-mut-slice.ensures.value ∙ c.in-ok-out.ensures.0) (c.as-mut-slice-2.ensures.value ∙ c.in-ok-notes.ensures.0) (with_items_is c.in-ok-out.out out' l) (with_items_is c.in-ok-notes.notes notes' m) c.get-partial-many-result.ensures,
+      ranges_read_lem c.as_mut_slice.result.now (zeros c.args.len) c.as_mut_slice-2.result.now (blank_notes c.args.notes_len) (c.as_mut_slice.ensures.value ∙ c.in_ok-out.ensures.0) (c.as_mut_slice-2.ensures.value ∙ c.in_ok-notes.ensures.0) (with_items_is c.in_ok-out.out out' l) (with_items_is c.in_ok-notes.notes notes' m) c.get_partial_many-result.ensures,
       refl,
     )

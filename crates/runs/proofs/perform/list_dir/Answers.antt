@@ -6,12 +6,12 @@ use Rattle.runs.proofs.perform.list_dir.Goals as goal
 
 pub returns : goal.returns
 returns g c tidy =
-    let ks = c.list-dir-result.new.keys in
-    let ps = c.list-dir-result.new.prefixes in
-    let l : length ks ≡ c.in-ok-keys.keys.len = omega arith in
-    let m : length ps ≡ c.in-ok-prefixes.prefixes.len = omega arith in (
+    let ks = c.list_dir-result.new.keys in
+    let ps = c.list_dir-result.new.prefixes in
+    let l : length ks ≡ c.in_ok-keys.keys.len = omega arith in
+    let m : length ps ≡ c.in_ok-prefixes.prefixes.len = omega arith in (
       _,
       refl,
-      dir_listed_lem c.as-mut-slice.result.now (blank_rows c.args.keys-len) c.as-mut-slice-2.result.now (blank_rows c.args.prefixes-len) (c.as-mut-slice.ensures.value ∙ c.in-ok-keys.ensures.0) (c.as-mut-slice-2.ensures.value ∙ c.in-ok-prefixes.ensures.0) (with_items_is c.in-ok-keys.keys ks l) (with_items_is c.in-ok-prefixes.prefixes ps m) c.list-dir-result.ensures,
+      dir_listed_lem c.as_mut_slice.result.now (blank_rows c.args.keys_len) c.as_mut_slice-2.result.now (blank_rows c.args.prefixes_len) (c.as_mut_slice.ensures.value ∙ c.in_ok-keys.ensures.0) (c.as_mut_slice-2.ensures.value ∙ c.in_ok-prefixes.ensures.0) (with_items_is c.in_ok-keys.keys ks l) (with_items_is c.in_ok-prefixes.prefixes ps m) c.list_dir-result.ensures,
       refl,
     )

@@ -6,6 +6,6 @@ use Rattle.runs.proofs.perform.list_prefix.Goals as goal
 
 pub returns : goal.returns
 returns g c tidy =
-    let rows = c.list-prefix-result.new.keys in
-    let l : length rows ≡ c.in-ok-keys.keys.len = omega arith in
-    (_, refl, rows_listed_lem c.as-mut-slice.result.now (blank_rows c.args.len) (c.as-mut-slice.ensures.value ∙ c.in-ok-keys.ensures.0) (with_items_is c.in-ok-keys.keys rows l) c.list-prefix-result.ensures, refl)
+    let rows = c.list_prefix-result.new.keys in
+    let l : length rows ≡ c.in_ok-keys.keys.len = omega arith in
+    (_, refl, rows_listed_lem c.as_mut_slice.result.now (blank_rows c.args.len) (c.as_mut_slice.ensures.value ∙ c.in_ok-keys.ensures.0) (with_items_is c.in_ok-keys.keys rows l) c.list_prefix-result.ensures, refl)

@@ -7,7 +7,7 @@ returns g c =
     record {
       first = λ tidy plain. run_laws c.args.calls.now (vec_items c.record.new.answers) plain (c.record.ensures.ran tidy);
       second = λ tidy plain. run_laws c.args.others.now (vec_items c.record-2.new.answers) plain (c.record-2.ensures.ran tidy);
-      reached = (reached_is c.is-ok-whole.ensures.value c.record.ensures.reached, reached_is c.is-ok-complete.ensures.value c.record-2.ensures.reached);
+      reached = (reached_is c.is_ok-whole.ensures.value c.record.ensures.reached, reached_is c.is_ok-complete.ensures.value c.record-2.ensures.reached);
       same =
           λ tidy-s tidy-r layers.
           two_run_laws (ap suc layers)

@@ -9,5 +9,5 @@ returns-then-out-eq0 c =
       place = record { place = omega arith; value = refl; rest = λ q. refl };
     }
 
-pub copy-from-slice-requires : goal.copy-from-slice-requires
-copy-from-slice-requires c = sym (part_length _ _ _ _ c.in-ok-part.ensures)
+pub copy_from_slice-requires : goal.copy_from_slice-requires
+copy_from_slice-requires c = sym (part_length _ _ _ _ c.in_ok-part.ensures)

@@ -10,7 +10,7 @@ returns-then-out-eq0 g c =
       place = record { place = omega arith; value = refl; rest = λ q. refl };
     }
 
-pub overflow-add-self : goal.overflow-add-self
-overflow-add-self g c =
-    let b = read_fits _ _ _ _ _ _ (g.met.S.ReadableStorageTraits.sound c.args.self.now.storage) c.in-ok-n.ensures.answer c.in-Some.is in
+pub overflow_add-self : goal.overflow_add-self
+overflow_add-self g c =
+    let b = read_fits _ _ _ _ _ _ (g.met.S.ReadableStorageTraits.sound c.args.self.now.storage) c.in_ok-n.ensures.answer c.in-Some.is in
     search rules
