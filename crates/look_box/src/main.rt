@@ -1,5 +1,6 @@
 //! A look box: performs a script of calls from standard input on an atomic write adapter over a store that starts empty, on a device whose power may be cut.
 //! Prints one line for each call, and at the end what the store holds, and the exports.
+#![tactic(auto)]
 
 use atomic_write::atomic_write::AtomicWriteStorageAdapter;
 use layers::countdown::Countdown;
@@ -7,8 +8,8 @@ use memory_store::memory_store::MemoryStore;
 use runs::run::run;
 use session::calls::calls_of;
 use session::holds::{write_exports, write_holds};
+use session::performed::write_transcript;
 use session::power::power_of;
-use session::transcript::write_transcript;
 use std::io;
 use std::io::{Read, Write};
 

@@ -27,7 +27,7 @@ pub fn cut_answer(line: &[u8]) -> Option<(&[u8], &[u8])> {
 
 /// The bytes that a word stands for: `-` for none, else pairs of hexadecimal digits.
 pub fn bytes_of(word: &[u8], heap: Global) -> Result<Vec<u8>, AllocError> {
-    if word == b"-" {
+    if word == b"-".as_slice() {
         return Ok(Vec::new(heap));
     }
     decode(heap, word)

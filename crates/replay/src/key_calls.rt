@@ -49,19 +49,19 @@ pub fn answer_key(
 ) -> Result<Outcome, AllocError> {
     let (first, second) = cut(rest, b' ');
     let made = key_of(first, heap)?;
-    if call == b"key" {
+    if call == b"key".as_slice() {
         return accepted(out, made.is_some());
     }
     let Some(first) = made else {
         return refused(out);
     };
-    if call == b"key_parent" {
+    if call == b"key_parent".as_slice() {
         return prefix(out, &first.parent());
     }
-    if call == b"key_prefix" {
+    if call == b"key_prefix".as_slice() {
         return prefix(out, &first.to_prefix());
     }
-    if call == b"temporary" {
+    if call == b"temporary".as_slice() {
         return key(out, temporary(&first));
     }
     answer_pair(out, call, first, second, heap)
@@ -75,7 +75,7 @@ fn answer_pair(
     second: &[u8],
     heap: Global,
 ) -> Result<Outcome, AllocError> {
-    if call == b"has_prefix" {
+    if call == b"has_prefix".as_slice() {
         let Some(prefix) = prefix_of(second, heap)? else {
             return refused(out);
         };
@@ -99,16 +99,16 @@ pub fn answer_prefix(
 ) -> Result<Outcome, AllocError> {
     let (first, second) = cut(rest, b' ');
     let made = prefix_of(first, heap)?;
-    if call == b"prefix" {
+    if call == b"prefix".as_slice() {
         return accepted(out, made.is_some());
     }
     let Some(first) = made else {
         return refused(out);
     };
-    if call == b"prefix_key" {
+    if call == b"prefix_key".as_slice() {
         return key(out, key_from(&first));
     }
-    if call == b"prefix_parent" {
+    if call == b"prefix_parent".as_slice() {
         return match first.parent() {
             Some(parent) => prefix(out, &parent),
             None => answered(out, b"none"),

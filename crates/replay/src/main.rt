@@ -1,4 +1,5 @@
 //! Compares vectors of the original crate's answers with the answers of this port.
+#![tactic(auto)]
 
 mod fields;
 mod key_calls;
@@ -61,7 +62,9 @@ fn one_of(word: &[u8], a: &[u8], b: &[u8], c: &[u8], d: &[u8]) -> bool {
 /// True if the call is a step on an open reader: an extraction from bytes names them too.
 fn is_step(call: &[u8], rest: &[u8]) -> bool {
     let (_, second) = cut(rest, b' ');
-    call == b"seek" || call == b"read" || call == b"extract" && second.len() == 0
+    call == b"seek".as_slice()
+        || call == b"read".as_slice()
+        || call == b"extract".as_slice() && second.len() == 0
 }
 
 /// The port's answer to a call.
@@ -75,12 +78,12 @@ fn answer(
     if is_step(call, rest) {
         return answer_step(out, &mut run.reader, call, rest, heap);
     }
-    if call == b"read_seek" {
+    if call == b"read_seek".as_slice() {
         return answer_read_seek(out, rest, heap);
     }
     if one_of(call, b"key", b"key_parent", b"key_prefix", b"temporary")
-        || call == b"has_prefix"
-        || call == b"key_order"
+        || call == b"has_prefix".as_slice()
+        || call == b"key_order".as_slice()
     {
         return answer_key(out, call, rest, heap);
     }
@@ -93,10 +96,10 @@ fn answer(
     ) {
         return answer_prefix(out, call, rest, heap);
     }
-    if one_of(call, b"new", b"start", b"end", b"length") || call == b"range_order" {
+    if one_of(call, b"new", b"start", b"end", b"length") || call == b"range_order".as_slice() {
         return answer_range(out, call, rest, heap);
     }
-    if call == b"extract" || call == b"concat" {
+    if call == b"extract".as_slice() || call == b"concat".as_slice() {
         return answer_values(out, call, rest, heap);
     }
     match run.kind {
@@ -109,7 +112,7 @@ fn answer(
 /// True if the port's outcome is the expected one: where the original panics, the port refuses.
 fn agrees(outcome: Outcome, got: &[u8], expected: &[u8]) -> bool {
     match outcome {
-        Outcome::Refused => expected == b"panic" || got == expected,
+        Outcome::Refused => expected == b"panic".as_slice() || got == expected,
         _ => same_items(got, expected),
     }
 }
@@ -121,7 +124,7 @@ fn same_items(got: &[u8], expected: &[u8]) -> bool {
     for _ in 0..expected.len() {
         let (a, more) = cut(ours, b',');
         let (b, others) = cut(theirs, b',');
-        if a != b && !(b == b"panic" && a.starts_with(b"fault:")) {
+        if a != b && !(b == b"panic".as_slice() && a.starts_with(b"fault:")) {
             return false;
         }
         ours = more;
@@ -179,14 +182,14 @@ fn replay(
     heap: Global,
 ) -> Result<(), AllocError> {
     let (name, rest) = cut(line, b' ');
-    if name == b"run" {
+    if name == b"run".as_slice() {
         return begin(run, rest, heap);
     }
-    if line == b"power_on" {
+    if line == b"power_on".as_slice() {
         run.exports.power_on();
         return Ok(());
     }
-    if name == b"open" {
+    if name == b"open".as_slice() {
         run.reader = opened(rest, heap)?;
         return Ok(());
     }

@@ -9,12 +9,12 @@ use std::alloc::{AllocError, Global};
 /// The range that a word stands for.
 fn range_of(word: &[u8]) -> Option<ByteRange> {
     let (kind, rest) = cut(word, b':');
-    if kind == b"s" {
+    if kind == b"s".as_slice() {
         return Some(ByteRange::Suffix(number_of(rest)?));
     }
     let (offset, length) = cut(rest, b':');
     let offset = number_of(offset)?;
-    if length == b"-" {
+    if length == b"-".as_slice() {
         return Some(ByteRange::FromStart(offset, None));
     }
     Some(ByteRange::FromStart(offset, Some(number_of(length)?)))
@@ -23,11 +23,11 @@ fn range_of(word: &[u8]) -> Option<ByteRange> {
 /// The bound that a word stands for.
 fn bound_of(word: &[u8]) -> Option<Bound> {
     let (kind, rest) = cut(word, b':');
-    if kind == b"u" {
+    if kind == b"u".as_slice() {
         return Some(Bound::Unbounded);
     }
     let n = number_of(rest)?;
-    if kind == b"i" {
+    if kind == b"i".as_slice() {
         return Some(Bound::Included(n));
     }
     Some(Bound::Excluded(n))
@@ -97,13 +97,13 @@ pub fn answer_range(
     heap: Global,
 ) -> Result<Outcome, AllocError> {
     let (first, second) = cut(rest, b' ');
-    if call == b"new" {
+    if call == b"new".as_slice() {
         return answer_new(out, first, second, heap);
     }
     let Some(range) = range_of(first) else {
         return Ok(Outcome::Unknown);
     };
-    if call == b"range_order" {
+    if call == b"range_order".as_slice() {
         let Some(other) = range_of(second) else {
             return Ok(Outcome::Unknown);
         };
@@ -112,10 +112,10 @@ pub fn answer_range(
     let Some(size) = number_of(second) else {
         return Ok(Outcome::Unknown);
     };
-    if call == b"start" {
+    if call == b"start".as_slice() {
         return number(out, range.start(size), heap);
     }
-    if call == b"end" {
+    if call == b"end".as_slice() {
         return number(out, range.end(size), heap);
     }
     number(out, range.length(size), heap)
@@ -168,7 +168,7 @@ pub fn answer_values(
     let value = bytes_of(value, heap)?;
     let ranges = ranges_of(list, heap)?;
     let mut buffer = vec![in heap; 0u8; value.len().saturating_mul(ranges.len())]?;
-    if call == b"concat" {
+    if call == b"concat".as_slice() {
         return concat(
             out,
             value.as_slice(),

@@ -42,10 +42,10 @@ fn refused(out: &mut Vec<u8>) -> Result<Outcome, AllocError> {
 /// The seek that a word stands for.
 fn seek_of(word: &[u8]) -> Option<SeekFrom> {
     let (kind, rest) = cut(word, b':');
-    if kind == b"s" {
+    if kind == b"s".as_slice() {
         return Some(SeekFrom::Start(number_of(rest)?));
     }
-    if kind == b"c" {
+    if kind == b"c".as_slice() {
         return Some(SeekFrom::Current(signed_of(rest)?));
     }
     Some(SeekFrom::End(signed_of(rest)?))
@@ -123,10 +123,10 @@ pub fn answer_step(
     rest: &[u8],
     heap: Global,
 ) -> Result<Outcome, AllocError> {
-    if call == b"seek" {
+    if call == b"seek".as_slice() {
         return seek(out, reader, rest, heap);
     }
-    if call == b"read" {
+    if call == b"read".as_slice() {
         return read(out, reader, rest, heap);
     }
     extract(out, reader, rest, heap)

@@ -26,19 +26,22 @@ pub fn answer_store<S: WritableStorageTraits + ListableStorageTraits>(
     heap: Global,
 ) -> Result<Outcome, AllocError> {
     let (first, second) = cut(rest, b' ');
-    if call == b"set" || call == b"erase" {
+    if call == b"set".as_slice() || call == b"erase".as_slice() {
         return answer_write(out, store, call, first, second, heap);
     }
-    if call == b"erase_many" {
+    if call == b"erase_many".as_slice() {
         return answer_many(out, store, first, heap);
     }
-    if call == b"set_partial" || call == b"patch_via_set" {
+    if call == b"set_partial".as_slice() || call == b"patch_via_set".as_slice() {
         return write_at_offsets(out, store, call, first, second, heap);
     }
-    if call == b"get" || call == b"get_partial" || call == b"size_key" {
+    if call == b"get".as_slice()
+        || call == b"get_partial".as_slice()
+        || call == b"size_key".as_slice()
+    {
         return answer_reading(out, store, call, first, second, heap);
     }
-    if call == b"list" || call == b"size" || call == b"contents" {
+    if call == b"list".as_slice() || call == b"size".as_slice() || call == b"contents".as_slice() {
         return answer_all(out, store, call, heap);
     }
     answer_under(out, store, call, first, heap)
@@ -69,7 +72,7 @@ fn answer_write<S: WritableStorageTraits + ListableStorageTraits>(
     let Some(key) = key_of(key, heap)? else {
         return refused(out);
     };
-    if call == b"erase" {
+    if call == b"erase".as_slice() {
         return written(out, store.erase(&key));
     }
     let value = bytes_of(value, heap)?;
@@ -100,7 +103,7 @@ fn rows_of(list: &[u8], heap: Global) -> Result<Vec<Row>, AllocError> {
     let mut rest = list;
     for _ in 0..list.len() {
         let (word, more) = cut(rest, b',');
-        if word.len() > 0 && word != b"." {
+        if word.len() > 0 && word != b".".as_slice() {
             if let Some(key) = key_of(word, heap)? {
                 rows.push(Row::from_key(&key))?;
             }
@@ -125,7 +128,7 @@ fn write_at_offsets<S: WritableStorageTraits + ListableStorageTraits>(
     let mut source = Vec::new(heap);
     let patches = patches_of(list, &mut source, heap)?;
     let mut work = vec![in heap; 0u8; MAX_BYTES]?;
-    if call == b"set_partial" {
+    if call == b"set_partial".as_slice() {
         return written(
             out,
             store.set_partial_many(
@@ -184,10 +187,10 @@ fn answer_reading<S: ListableStorageTraits>(
     let Some(len) = store.size_key(&key) else {
         return answered(out, b"none");
     };
-    if call == b"size_key" {
+    if call == b"size_key".as_slice() {
         return write_number(out, len, heap);
     }
-    if call == b"get" {
+    if call == b"get".as_slice() {
         return write_value(out, store, &key, heap);
     }
     answer_ranges(out, store, &key, list, heap)
@@ -278,10 +281,10 @@ fn answer_all<S: ListableStorageTraits>(
     call: &[u8],
     heap: Global,
 ) -> Result<Outcome, AllocError> {
-    if call == b"size" {
+    if call == b"size".as_slice() {
         return write_number(out, size(store), heap);
     }
-    if call == b"contents" {
+    if call == b"contents".as_slice() {
         return write_contents(out, store, heap);
     }
     let mut rows = vec![in heap; Row::empty(); MAX_KEYS]?;
@@ -323,21 +326,21 @@ fn answer_under<S: WritableStorageTraits + ListableStorageTraits>(
     let Some(prefix) = prefix_of(prefix, heap)? else {
         return Ok(Outcome::Unknown);
     };
-    if call == b"erase_prefix" {
+    if call == b"erase_prefix".as_slice() {
         return written(out, store.erase_prefix(&prefix));
     }
-    if call == b"size_prefix" {
+    if call == b"size_prefix".as_slice() {
         return write_number(out, size_prefix(store, &prefix), heap);
     }
-    if call == b"list_dir" {
+    if call == b"list_dir".as_slice() {
         return answer_dir(out, store, &prefix, heap);
     }
     let mut rows = vec![in heap; Row::empty(); MAX_KEYS]?;
-    if call == b"list_prefix" {
+    if call == b"list_prefix".as_slice() {
         let listed = list_prefix(store, &prefix, rows.as_mut_slice());
         return write_listed(out, listed, rows.as_slice());
     }
-    if call == b"children" {
+    if call == b"children".as_slice() {
         let listed = discover_children(store, &prefix, rows.as_mut_slice());
         return write_listed(out, listed, rows.as_slice());
     }

@@ -1,9 +1,9 @@
 -- Blanks and words.
-use Rattle.std.proofs.Common.{◌≡◌, ℕ, ◌+◌, ◌-◌, ◌<◌, ◌≤◌, Bool, true, false, not, List, [], ◌∷◌, ◌++◌, length, get_or, take, drop, sym, refl, ap, ◌∙◌, subst, arith, length-drop, length-take}
+use Rattle.std.proofs.Common.{◌≡◌, ℕ, ◌+◌, ◌-◌, ◌<◌, ◌≤◌, Bool, true, false, length, get_or, take, drop, ap, ◌∙◌, subst, arith}
 use Rattle.std.specs.List.{prefix_len, suffix_len}
 use Rattle.std.proofs.lemmas.List.{take_rest}
-use Rattle.std.proofs.lemmas.List.Sums.{prefix_len-drop_yes, prefix_len-drop_no, prefix_len-drop_all, prefix_len-le-length}
-use Rattle.script.specs.Words.{Bytes, blank, plain, trimmed_front, trimmed_back, trimmed, first_word, behind_word}
+use Rattle.std.proofs.lemmas.List.Sums.{prefix_len-drop_yes, prefix_len-drop_no, prefix_len-drop_all}
+use Rattle.script.specs.Words.{Bytes, blank, plain, trimmed_front, trimmed, first_word, behind_word}
 
 -- the steps of a loop that counts the bytes at the front that pass p
 module _ (p : ℕ → Bool) (t : Bytes) (i : ℕ) (inv : i + prefix_len p (drop i t) ≡ prefix_len p t) where

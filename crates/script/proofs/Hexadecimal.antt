@@ -1,9 +1,9 @@
 -- Hexadecimal text: the steps of reading and writing it, and that what is written reads back.
-use Rattle.std.proofs.Common.{◌≡◌, ℕ, ◌+◌, ◌-◌, ◌*◌, ◌/◌, ◌%◌, ◌<◌, ◌≤◌, Bool, true, false, cond, ◌&&◌, List, [], ◌∷◌, ◌++◌, length, get_or, take, drop, sym, refl, ap, ◌∙◌, append_assoc, arith, length-drop}
-use Rattle.std.proofs.lemmas.List.{at_drop_more, at_drop_all, drop_more, nil_from_length, append-nil}
+use Rattle.std.proofs.Common.{◌≡◌, ℕ, ◌+◌, ◌*◌, ◌/◌, ◌<◌, ◌≤◌, [], ◌∷◌, ◌++◌, length, get_or, drop, refl, ap, ◌∙◌, append_assoc, arith, length-drop}
+use Rattle.std.proofs.lemmas.List.{at_drop_more, at_drop_all, drop_more}
 use Rattle.script.specs.Words.{Bytes}
 use Rattle.script.proofs.Appends.{onward}
-use Rattle.script.specs.Hex.{digit_value, digit_of, is_digit, all_digits, is_hex, unhex, hex}
+use Rattle.script.specs.Hex.{digit_value, digit_of, unhex, hex}
 
 unhex_short : (u : Bytes) → length u < 2 → unhex u ≡ []
 unfolding unhex

@@ -1,5 +1,5 @@
 -- Hexadecimal text: two lowercase digits for each byte.
-use Rattle.std.specs.Prelude.{ℕ, ◌+◌, ◌-◌, ◌*◌, ◌/◌, ◌%◌, Bool, true, false, cond, ◌&&◌, ◌||◌, List, [], ◌∷◌, length, ◌==◌, nat_le, nat_lt}
+use Rattle.std.specs.Prelude.{ℕ, ◌+◌, ◌-◌, ◌*◌, ◌/◌, ◌%◌, Bool, true, cond, ◌&&◌, ◌||◌, [], ◌∷◌, length, ◌==◌, nat_le, nat_lt}
 use Rattle.script.specs.Words.{Bytes}
 
 -- `0` to `9`

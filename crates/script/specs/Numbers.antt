@@ -1,5 +1,5 @@
 -- Numbers in decimal.
-use Rattle.std.specs.Prelude.{ℕ, ◌+◌, ◌-◌, ◌*◌, ◌^◌, Bool, cond, ◌&&◌, List, [], ◌∷◌, Some, None, Option, nat_le, nat_lt}
+use Rattle.std.specs.Prelude.{ℕ, ◌+◌, ◌-◌, ◌*◌, ◌^◌, Bool, cond, ◌&&◌, [], ◌∷◌, Some, None, Option, nat_le, nat_lt}
 use Rattle.script.specs.Words.{Bytes}
 
 -- a digit, 0 to 9

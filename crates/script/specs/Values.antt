@@ -1,5 +1,5 @@
 -- Values as a script writes them: text in quotes, or `x` and pairs of hexadecimal digits.
-use Rattle.std.specs.Prelude.{ℕ, ◌-◌, Bool, true, false, cond, ◌&&◌, List, [], ◌∷◌, ◌++◌, length, take, drop, Some, None, Option, ◌==◌, nat_le, slice_index}
+use Rattle.std.specs.Prelude.{ℕ, ◌-◌, Bool, cond, ◌&&◌, length, take, drop, Some, None, Option, ◌==◌, nat_le, slice_index}
 use Rattle.std.specs.Option.{option_map}
 use Rattle.script.specs.Words.{Bytes}
 use Rattle.script.specs.Hex.{is_hex, unhex}

@@ -1,4 +1,5 @@
 //! Scripts of a look box: what a line says.
+#![tactic(auto)]
 
 pub mod command;
 pub mod hex;

@@ -4,7 +4,7 @@ use Rattle.keys.specs.Text.{Bytes}
 use Rattle.patches.specs.declared.Patch.{Patch}
 use Rattle.runs.specs.Events.{Ask, asked, set, patch}
 use Rattle.runs.specs.declared.call.Call as runs
-use Rattle.script.specs.Commands.{Call, exporting, patching, on}
+use Rattle.script.specs.Commands.{exporting, patching, on}
 use Rattle.script.specs.declared.command.Labelled.{Labelled}
 use Rattle.session.specs.Scripts.{KeyNo, LabelledNo, labelled_ask, CallAsks, allowed}
 

@@ -1,13 +1,13 @@
 -- What a store holds, written key by key.
-use Rattle.std.proofs.Common.{◌≡◌, ℕ, ◌+◌, ◌^◌, ◌<◌, ◌≤◌, true, List, [], ◌∷◌, ◌++◌, map, length, get_or, take, drop, Some, None, unwrap_or, sym, refl, ap, ◌∙◌, subst, append_assoc, arith}
+use Rattle.std.proofs.Common.{◌≡◌, ℕ, ◌+◌, ◌<◌, ◌≤◌, true, [], ◌∷◌, ◌++◌, length, get_or, take, drop, Some, None, unwrap_or, sym, refl, ap, ◌∙◌, subst, append_assoc, arith}
 use Rattle.std.specs.List.{slice_get}
-use Rattle.std.proofs.lemmas.List.{append-nil, at_drop_more, at_drop_all, drop_more, take-append-drop, map-append, get_or-map, length-map, drop_all}
+use Rattle.std.proofs.lemmas.List.{append-nil, at_drop_more, drop_more, take-append-drop, map-append, get_or-map, length-map, drop_all}
 use Rattle.std.proofs.lemmas.Option.{slice_get-get_or}
 use Rattle.keys.specs.Text.{Bytes}
-use Rattle.storage.specs.Contents.{Entry, Contents, Ascending, Sound, ascending, keys_of, found, sized, total}
+use Rattle.storage.specs.Contents.{Entry, Contents, Ascending, ascending, keys_of, found, sized, total}
 use Rattle.storage.proofs.Ascends.{ascending_split}
 use Rattle.storage.proofs.Places.{found_at}
-use Rattle.script.proofs.Appends.{onward, two}
+use Rattle.script.proofs.Appends.{onward}
 use Rattle.transcript.specs.Answers.{entry_line, total_line}
 use Rattle.session.specs.Holds.{entries_text, holds_text}
 use Rattle.session.proofs.Keys.{below, past}

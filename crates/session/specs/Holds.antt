@@ -1,9 +1,9 @@
 -- What a store holds, as it is printed.
 --   entries_text                a line for each key, with the length of its value
 --   holds_text                  these, and the total
-use Rattle.std.specs.Prelude.{List, [], ◌∷◌, ◌++◌, length}
+use Rattle.std.specs.Prelude.{[], ◌∷◌, ◌++◌, length}
 use Rattle.keys.specs.Text.{Bytes}
-use Rattle.storage.specs.Contents.{Entry, Contents, total}
+use Rattle.storage.specs.Contents.{Contents, total}
 use Rattle.transcript.specs.Answers.{entry_line, total_line}
 
 -- the lines of the keys that a store holds

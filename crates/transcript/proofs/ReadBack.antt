@@ -1,10 +1,10 @@
 -- What is written reads back.
-use Rattle.std.proofs.Common.{◌≡◌, ℕ, ◌+◌, ◌-◌, ◌*◌, ◌/◌, ◌%◌, ◌<◌, ◌≤◌, Bool, true, false, cond, not, ◌&&◌, eqb, ltb, leb, List, [], ◌∷◌, ◌++◌, length, get_or, take, drop, Some, None, Option, sym, refl, ap, ◌∙◌, subst, append_assoc, arith, length-append}
-use Rattle.std.specs.List.{prefix_len, suffix_len, AllByRecursion as All}
+use Rattle.std.proofs.Common.{◌≡◌, ℕ, ◌+◌, ◌-◌, ◌*◌, ◌/◌, ◌%◌, ◌<◌, true, false, eqb, leb, [], ◌∷◌, ◌++◌, length, get_or, take, Some, sym, refl, ap, ◌∙◌, append_assoc, arith}
+use Rattle.std.specs.List.{AllByRecursion}
 use Rattle.std.proofs.lemmas.List.{take_at, get_or_at, length_push}
-use Rattle.std.proofs.lemmas.Bool.{le-leb, eq-eqb, and_from, and_left, and_right, cond-true, cond-false, cond_both, not-true, not_from_false}
+use Rattle.std.proofs.lemmas.Bool.{le-leb, eq-eqb, and_from, and_right, cond-true, cond-false, cond_both}
 use Rattle.std.proofs.lemmas.Bool.Decides.{nat_tests}
-use Rattle.script.specs.Words.{Bytes, blank, plain}
+use Rattle.script.specs.Words.{Bytes}
 use Rattle.script.specs.Hex.{digit_value, digit_of, is_digit, all_digits, is_hex, unhex, hex}
 use Rattle.script.specs.Values.{quote, hex_mark, is_quoted, is_hex_value, value_said}
 use Rattle.transcript.specs.Written.{printable, value_text}
@@ -17,7 +17,7 @@ digit_is n = grind (arith, nat_tests)
 
 -- the numbers that a byte holds
 abbrev pub Octets : Bytes → Type 0
-Octets v = All (λ b. b < 256) v
+Octets v = AllByRecursion (λ b. b < 256) v
 
 pub unhex-hex : (v : Bytes) → Octets v → unhex (hex v) ≡ v
 unfolding unhex hex

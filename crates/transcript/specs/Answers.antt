@@ -8,7 +8,7 @@
 --   mistake_line, late_line      the line of a line that is no call, or sets the power too late
 --   entry_line, total_line, exports_line
 --                              a stored key; all of them; the exports
-use Rattle.std.specs.Prelude.{ℕ, Bool, true, false, cond, List, [], ◌∷◌, ◌++◌, length, take, Some, None, Ok, Err, vec_items, codes, decimal, Option, Result, ◌==◌}
+use Rattle.std.specs.Prelude.{ℕ, cond, List, [], ◌∷◌, ◌++◌, take, Some, None, Ok, Err, vec_items, codes, decimal, Option, Result, ◌==◌}
 use Rattle.std.specs.List.{flat_map}
 use Rattle.keys.specs.Rows.{row_text}
 use Rattle.keys.specs.StoreKeys.{text}

@@ -1,6 +1,6 @@
 -- How values and labels are written, so that a script reads them back.
 
-use Rattle.std.specs.Prelude.{ℕ, Bool, true, false, cond, not, ◌&&◌, List, [], ◌∷◌, ◌++◌, length, ◌==◌, nat_le}
+use Rattle.std.specs.Prelude.{ℕ, Bool, true, cond, not, ◌&&◌, [], ◌∷◌, ◌++◌, length, ◌==◌, nat_le}
 use Rattle.script.specs.Words.{Bytes}
 use Rattle.script.specs.Hex.{hex}
 use Rattle.script.specs.Values.{quote, hex_mark}

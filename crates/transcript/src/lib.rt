@@ -1,4 +1,5 @@
 //! How values, calls and answers of a look box are written.
+#![tactic(auto)]
 
 pub mod answer;
 pub mod lines;

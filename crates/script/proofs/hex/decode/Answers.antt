@@ -1,4 +1,4 @@
-use Rattle.std.proofs.Common.{◌≡◌, ◌++◌, vec_items, sym, refl, ap, ◌∙◌}
+use Rattle.std.proofs.Common.{◌++◌, vec_items, sym, ap, ◌∙◌}
 use Rattle.std.proofs.lemmas.List.{append-nil}
 use Rattle.script.proofs.Hexadecimal.{decode_step, unhex_all}
 use Rattle.script.proofs.hex.decode.Goals as goal
@@ -11,12 +11,12 @@ loop-i-preserved c =
     c.args.text.now
     _
     c.loop-i.i
-    c.digit-value.result
-    c.digit-value-in-loop-i.result
+    c.digit_value.result
+    c.digit_value-in-loop-i.result
     c.loop-i-test.true
-    c.digit-value.ensures.0
-    c.digit-value-in-loop-i.ensures.0
-    c.in-ok-push.ensures.items
+    c.digit_value.ensures.0
+    c.digit_value-in-loop-i.ensures.0
+    c.in_ok-push.ensures.items
     c.loop-i.invariant
 
 pub returns : goal.returns

@@ -1,4 +1,4 @@
-use Rattle.std.proofs.Common.{◌≡◌, ◌++◌, vec_items, sym, refl, ap, ◌∙◌}
+use Rattle.std.proofs.Common.{◌++◌, vec_items, sym, ap, ◌∙◌}
 use Rattle.std.proofs.lemmas.List.{append-nil}
 use Rattle.script.proofs.Hexadecimal.{encode_step, hex_all}
 use Rattle.script.proofs.hex.encode.Goals as goal
@@ -12,13 +12,13 @@ loop-b-preserved c =
     c.args.bytes.now
     _
     c.loop-b.b-index
-    c.hex-digit.result
-    c.hex-digit-in-loop-b.result
+    c.hex_digit.result
+    c.hex_digit-in-loop-b.result
     c.loop-b-test.true
-    c.hex-digit.ensures
-    c.hex-digit-in-loop-b.ensures
-    c.in-ok-push.ensures.items
-    c.in-ok-push-2.ensures.items
+    c.hex_digit.ensures
+    c.hex_digit-in-loop-b.ensures
+    c.in_ok-push.ensures.items
+    c.in_ok-push-2.ensures.items
     c.loop-b.invariant
 
 pub returns : goal.returns

@@ -8,9 +8,9 @@ use Rattle.session.proofs.calls.calls_of.Goals as goal
 
 pub loop-rest-preserved : goal.loop-rest-preserved
 loop-rest-preserved c = λ qs p.
-    let h = c.in-ok-push-call.ensures in
-    let l = (c.next-line.ensures c.loop-rest-test.true).0 in
-    subst (ScriptAsks (lines_of c.args.script.now)) (asks_more (vec_items c.loop-rest.calls) (vec_items c.push-call.new.calls) h.0 qs h.2)
+    let h = c.in_ok-push_call.ensures in
+    let l = (c.next_line.ensures c.loop-rest-test.true).0 in
+    subst (ScriptAsks (lines_of c.args.script.now)) (asks_more (vec_items c.loop-rest.calls) (vec_items c.push_call.new.calls) h.0 qs h.2)
     (c.loop-rest.invariant (h.0 ++ qs) (subst (λ ls. ScriptAsks ls (h.0 ++ qs)) (sym l) (line h.0 h.1 p)))
 
 pub returns : goal.returns

@@ -5,8 +5,8 @@ use Rattle.session.specs.Scripts.{refused}
 use Rattle.session.proofs.Asking.{patch_asks}
 use Rattle.session.proofs.calls.patch_call.Goals as goal
 
-pub returns-in-default : goal.returns-in-default
-returns-in-default c = refused c.in-default.field-0 c.in-default.ensures
+pub returns-in_default : goal.returns-in_default
+returns-in_default c = refused c.in_default.field-0 c.in_default.ensures
 
 pub returns : goal.returns
-returns c = patch_asks c.args.label.now (text c.in-Ok.key) (bytes_of c.args.value.now) (vec_items c.in-ok-bytes.bytes) c.args.offset _ _ c.in-Ok.ensures.0 c.in-Ok.ensures.1 c.in-ok-bytes.ensures (ap length c.as-slice.ensures.value) (c.in-ok-push.ensures.items ∙ ap (λ x. x ++ (record { offset = c.args.offset; start = 0; len = length c.as-slice.result.now } ∷ [])) c.new-patches.ensures.items)
+returns c = patch_asks c.args.label.now (text c.in-Ok.key) (bytes_of c.args.value.now) (vec_items c.in_ok-bytes.bytes) c.args.offset _ _ c.in-Ok.ensures.0 c.in-Ok.ensures.1 c.in_ok-bytes.ensures (ap length c.as_slice.ensures.value) (c.in_ok-push.ensures.items ∙ ap (λ x. x ++ (record { offset = c.args.offset; start = 0; len = length c.as_slice.result.now } ∷ [])) c.new-patches.ensures.items)

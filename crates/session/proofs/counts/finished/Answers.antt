@@ -17,8 +17,8 @@ pub loop-i-preserved : goal.loop-i-preserved
 loop-i-preserved c =
     let cs = c.args.calls.now in
     let rs = c.args.answers.now in
-    let k = c.one-n.ensures ∙ ap one c.is-finished.ensures in (
-      omega (arith, c.one-n.ensures, one_small c.is-finished.result, c.loop-i.invariant.0),
+    let k = c.one-n.ensures ∙ ap one c.is_finished.ensures in (
+      omega (arith, c.one-n.ensures, one_small c.is_finished.result, c.loop-i.invariant.0),
       tally_more (finished_in any) (λ e h. finishing any e) step none cs rs c.loop-i.i c.loop-i.n _ c.index-calls-i.result c.index-answers-i.result c.one-n.result (omega (arith, c.min-i-end.ensures)) (omega (arith, c.min-i-end.ensures)) c.index-calls-i.is c.index-answers-i.is k c.loop-i.invariant.1,
     )
 

@@ -13,12 +13,12 @@ loop-key-smaller g c = omega (arith, here (g.S.ReadableStorageTraits.contents c.
 pub loop-key-preserved : goal.loop-key-preserved
 loop-key-preserved g c =
     let cs = g.S.ReadableStorageTraits.contents c.args.store.now in
-    let r = c.one-count.ensures ∙ ap one (c.is-temporary.ensures ∙ ap is_temporary c.as-bytes.ensures) in
+    let r = c.one-count.ensures ∙ ap one (c.is_temporary.ensures ∙ ap is_temporary c.as_bytes.ensures) in
     let l = here cs c.loop-key.n (text c.in-Some.key) c.in-Some.ensures in (
-      omega (arith, c.one-count.ensures, one_small c.is-temporary.result, c.loop-key.invariant.0),
+      omega (arith, c.one-count.ensures, one_small c.is_temporary.result, c.loop-key.invariant.0),
       omega (arith, l),
       standing_more cs c.loop-key.n c.loop-key.count (text c.in-Some.key) c.one-count.result c.in-Some.ensures r c.loop-key.invariant.2,
     )
 
 pub returns : goal.returns
-returns g c = standing_all (g.S.ReadableStorageTraits.contents c.args.store.now) c.loop-key.n c.loop-key.count c.in-default.ensures c.loop-key.invariant.2
+returns g c = standing_all (g.S.ReadableStorageTraits.contents c.args.store.now) c.loop-key.n c.loop-key.count c.in_default.ensures c.loop-key.invariant.2

@@ -1,4 +1,4 @@
-use Rattle.std.proofs.Common.{◌≡◌, ◌++◌, vec_items, ap, ◌∙◌, subst}
+use Rattle.std.proofs.Common.{◌++◌, vec_items, ap, ◌∙◌}
 use Rattle.runs.specs.Events.{events}
 use Rattle.runs.specs.Laws.{any, begun_in, finished_in}
 use Rattle.transcript.specs.Answers.{exports_line}
@@ -10,10 +10,10 @@ returns g c =
     let b = c.begun-begun.result in
     let f = c.finished-finished.result in
     let s = c.standing-standing.result in
-    let n = c.in-ok-cleared.cleared in
+    let n = c.in_ok-cleared.cleared in
     let h = events c.args.calls.now c.args.answers.now in (
       n,
-      c.in-ok-write-exports-line.ensures
+      c.in_ok-write_exports_line.ensures
           ∙ (ap (λ x. o ++ exports_line x f s n) c.begun-begun.ensures
           ∙ (ap (λ x. o ++ exports_line (begun_in any h) x s n) c.finished-finished.ensures
           ∙ ap (λ x. o ++ exports_line (begun_in any h) (finished_in any h) x n) c.standing-standing.ensures)),

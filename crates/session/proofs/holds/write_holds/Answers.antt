@@ -7,20 +7,20 @@ use Rattle.session.proofs.holds.write_holds.Goals as goal
 pub loop-key-smaller : goal.loop-key-smaller
 loop-key-smaller g c = omega (arith, here (g.S.ReadableStorageTraits.contents c.args.store.now) c.loop-key.n (text c.in-Some.key) c.in-Some.ensures)
 
-pub overflow-add-bytes : goal.overflow-add-bytes
-overflow-add-bytes g c =
+pub overflow_add-bytes : goal.overflow_add-bytes
+overflow_add-bytes g c =
     let cs = g.S.ReadableStorageTraits.contents c.args.store.now in
     let s = g.met.S.ReadableStorageTraits.sound c.args.store.now in
-    omega (arith, s.small, sum_fits cs c.loop-key.n (text c.in-Some.key) c.unwrap-or-size.result c.loop-key.bytes s.ascends c.in-Some.ensures (c.unwrap-or-size.ensures ∙ ap (λ v. unwrap_or v 0) c.size-key.ensures) c.loop-key.invariant.sum)
+    omega (arith, s.small, sum_fits cs c.loop-key.n (text c.in-Some.key) c.unwrap_or-size.result c.loop-key.bytes s.ascends c.in-Some.ensures (c.unwrap_or-size.ensures ∙ ap (λ v. unwrap_or v 0) c.size_key.ensures) c.loop-key.invariant.sum)
 
 pub loop-key-preserved : goal.loop-key-preserved
 loop-key-preserved g c =
     let cs = g.S.ReadableStorageTraits.contents c.args.store.now in
     let s = g.met.S.ReadableStorageTraits.sound c.args.store.now in
-    one_line cs c.loop-key.n (text c.in-Some.key) c.unwrap-or-size.result c.loop-key.bytes (vec_items c.args.out.now) (vec_items c.loop-key.out) (vec_items c.write-entry-line.new.out) s.ascends c.in-Some.ensures
-    (c.unwrap-or-size.ensures ∙ ap (λ v. unwrap_or v 0) c.size-key.ensures)
-    (c.in-ok-write-entry-line.ensures ∙ ap (λ t. vec_items c.loop-key.out ++ entry_line t c.unwrap-or-size.result) c.as-bytes.ensures)
+    one_line cs c.loop-key.n (text c.in-Some.key) c.unwrap_or-size.result c.loop-key.bytes (vec_items c.args.out.now) (vec_items c.loop-key.out) (vec_items c.write_entry_line.new.out) s.ascends c.in-Some.ensures
+    (c.unwrap_or-size.ensures ∙ ap (λ v. unwrap_or v 0) c.size_key.ensures)
+    (c.in_ok-write_entry_line.ensures ∙ ap (λ t. vec_items c.loop-key.out ++ entry_line t c.unwrap_or-size.result) c.as_bytes.ensures)
     c.loop-key.invariant
 
 pub returns : goal.returns
-returns g c = all_lines (g.S.ReadableStorageTraits.contents c.args.store.now) c.loop-key.n c.loop-key.bytes (vec_items c.args.out.now) (vec_items c.loop-key.out) (vec_items c.write-total-line.new.out) c.in-default.ensures c.in-ok-write-total-line.ensures c.loop-key.invariant
+returns g c = all_lines (g.S.ReadableStorageTraits.contents c.args.store.now) c.loop-key.n c.loop-key.bytes (vec_items c.args.out.now) (vec_items c.loop-key.out) (vec_items c.write_total_line.new.out) c.in_default.ensures c.in_ok-write_total_line.ensures c.loop-key.invariant

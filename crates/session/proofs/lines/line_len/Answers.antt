@@ -1,4 +1,4 @@
-use Rattle.std.proofs.Common.{◌≡◌, not, get_or, sym, refl, ap, ◌∙◌, arith}
+use Rattle.std.proofs.Common.{not, get_or, ap, arith}
 use Rattle.std.proofs.lemmas.Bool.{eq-eqb, ne_eqb}
 use Rattle.script.proofs.Blanks.{front_more, front_stop, front_end}
 use Rattle.session.proofs.Splits.{other}

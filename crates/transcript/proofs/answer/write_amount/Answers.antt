@@ -3,4 +3,4 @@ use Rattle.script.proofs.Appends.{two}
 use Rattle.transcript.proofs.answer.write_amount.Goals as goal
 
 pub returns : goal.returns
-returns c = two (vec_items c.args.out.now) (vec_items c.extend-from-slice.new.self) (vec_items c.write-number.new.out) c.args.front.now (decimal c.args.n) c.in-ok-extend-from-slice.ensures.items c.in-ok-write-number.ensures
+returns c = two (vec_items c.args.out.now) (vec_items c.extend_from_slice.new.self) (vec_items c.write_number.new.out) c.args.front.now (decimal c.args.n) c.in_ok-extend_from_slice.ensures.items c.in_ok-write_number.ensures

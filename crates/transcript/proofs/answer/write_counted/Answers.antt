@@ -8,9 +8,9 @@ pub returns : goal.returns
 returns c =
     two
     (vec_items c.args.out.now)
-    (vec_items c.write-count.new.out)
-    (vec_items c.write-rows.new.out)
+    (vec_items c.write_count.new.out)
+    (vec_items c.write_rows.new.out)
     (count_text c.args.n c.args.one.now c.args.many.now)
     (flat_map row_label (take c.args.n c.args.rows.now))
-    c.in-ok-write-count.ensures
-    (c.in-ok-write-rows.ensures ∙ ap (λ w. vec_items c.write-count.new.out ++ flat_map row_label w) c.front.ensures)
+    c.in_ok-write_count.ensures
+    (c.in_ok-write_rows.ensures ∙ ap (λ w. vec_items c.write_count.new.out ++ flat_map row_label w) c.front.ensures)

@@ -7,12 +7,12 @@ pub returns : goal.returns
 returns c =
     three
     (vec_items c.args.out.now)
-    (vec_items c.write-counted.new.out)
-    (vec_items c.extend-from-slice.new.self)
-    (vec_items c.write-counted-2.new.out)
+    (vec_items c.write_counted.new.out)
+    (vec_items c.extend_from_slice.new.self)
+    (vec_items c.write_counted-2.new.out)
     (counted_text c.args.found.now.keys (codes "key") (codes "keys") c.args.keys.now)
     (codes ", ")
     (counted_text c.args.found.now.prefixes (codes "prefix") (codes "prefixes") c.args.prefixes.now)
-    c.in-ok-write-counted.ensures
-    c.in-ok-extend-from-slice.ensures.items
-    c.in-ok-write-counted-2.ensures
+    c.in_ok-write_counted.ensures
+    c.in_ok-extend_from_slice.ensures.items
+    c.in_ok-write_counted-2.ensures

@@ -7,15 +7,15 @@ pub returns : goal.returns
 returns c =
     four
     (vec_items c.args.out.now)
-    (vec_items c.extend-from-slice.new.self)
-    (vec_items c.write-label.new.out)
+    (vec_items c.extend_from_slice.new.self)
+    (vec_items c.write_label.new.out)
     (vec_items c.push.new.self)
-    (vec_items c.write-number.new.out)
+    (vec_items c.write_number.new.out)
     (codes "patch ")
     (label_text c.args.label.now)
     (32 ∷ [])
     (decimal c.args.offset)
-    c.in-ok-extend-from-slice.ensures.items
-    c.in-ok-write-label.ensures
-    c.in-ok-push.ensures.items
-    c.in-ok-write-number.ensures
+    c.in_ok-extend_from_slice.ensures.items
+    c.in_ok-write_label.ensures
+    c.in_ok-push.ensures.items
+    c.in_ok-write_number.ensures

@@ -1,4 +1,4 @@
-use Rattle.std.proofs.Common.{◌≡◌, ◌+◌, [], ◌∷◌, ◌++◌, get_or, drop, vec_items, sym, refl, ap, ◌∙◌, arith}
+use Rattle.std.proofs.Common.{◌+◌, [], ◌∷◌, ◌++◌, get_or, drop, vec_items, sym, ap, ◌∙◌}
 use Rattle.std.specs.List.{flat_map}
 use Rattle.std.proofs.lemmas.List.{append-nil, at_drop_more, at_drop_all}
 use Rattle.keys.specs.declared.row.Row.{Row}
@@ -16,13 +16,13 @@ loop-row-preserved c =
     let i = c.loop-row.row-index in
     let k = get_or ks i blank in
     onward
-    (vec_items c.write-labelled.new.out)
+    (vec_items c.write_labelled.new.out)
     (vec_items c.loop-row.out)
     (row_label k)
     (flat_map row_label (drop i ks))
     (flat_map row_label (drop (i + 1) ks))
     _
-    (c.in-ok-write-labelled.ensures ∙ ap (λ t. vec_items c.loop-row.out ++ (32 ∷ label_text t)) c.as-bytes.ensures)
+    (c.in_ok-write_labelled.ensures ∙ ap (λ t. vec_items c.loop-row.out ++ (32 ∷ label_text t)) c.as_bytes.ensures)
     (at_drop_more (flat_map row_label) ks i blank c.loop-row-test.true)
     c.loop-row.invariant
 

@@ -8,12 +8,12 @@ pub returns : goal.returns
 returns c =
     three
     (vec_items c.args.out.now)
-    (vec_items c.write-bytes.new.out)
+    (vec_items c.write_bytes.new.out)
     (vec_items c.push.new.self)
-    (vec_items c.write-value.new.out)
+    (vec_items c.write_value.new.out)
     (size_text c.args.n)
     (32 ∷ [])
     (value_text (take c.args.n c.args.buffer.now))
-    c.in-ok-write-bytes.ensures
-    c.in-ok-push.ensures.items
-    (c.in-ok-write-value.ensures.writes ∙ ap (λ v. vec_items c.push.new.self ++ value_text v) c.front.ensures)
+    c.in_ok-write_bytes.ensures
+    c.in_ok-push.ensures.items
+    (c.in_ok-write_value.ensures.writes ∙ ap (λ v. vec_items c.push.new.self ++ value_text v) c.front.ensures)

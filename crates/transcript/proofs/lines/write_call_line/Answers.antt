@@ -9,12 +9,12 @@ unfolding call_line
 returns c =
     three
     (vec_items c.args.out.now)
-    (vec_items c.write-front.new.out)
-    (vec_items c.write-answer.new.out)
+    (vec_items c.write_front.new.out)
+    (vec_items c.write_answer.new.out)
     (vec_items c.push.new.self)
     (front_of c.args.number (call_of c.args.command.now))
     (answer_text c.args.answer.now)
     (10 ∷ [])
-    c.in-ok-write-front.ensures
-    c.in-ok-write-answer.ensures
-    c.in-ok-push.ensures.items
+    c.in_ok-write_front.ensures
+    c.in_ok-write_answer.ensures
+    c.in_ok-push.ensures.items

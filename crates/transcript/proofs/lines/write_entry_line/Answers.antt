@@ -9,15 +9,15 @@ unfolding entry_line
 returns c =
     four
     (vec_items c.args.out.now)
-    (vec_items c.write-label.new.out)
+    (vec_items c.write_label.new.out)
     (vec_items c.push.new.self)
-    (vec_items c.write-number.new.out)
+    (vec_items c.write_number.new.out)
     (vec_items c.push-2.new.self)
     (label_text c.args.key.now)
     (32 ∷ [])
     (decimal c.args.len)
     (10 ∷ [])
-    c.in-ok-write-label.ensures
-    c.in-ok-push.ensures.items
-    c.in-ok-write-number.ensures
-    c.in-ok-push-2.ensures.items
+    c.in_ok-write_label.ensures
+    c.in_ok-push.ensures.items
+    c.in_ok-write_number.ensures
+    c.in_ok-push-2.ensures.items

@@ -9,15 +9,15 @@ unfolding front_of
 returns c =
     four
     (vec_items c.args.out.now)
-    (vec_items c.write-number.new.out)
+    (vec_items c.write_number.new.out)
     (vec_items c.push.new.self)
-    (vec_items c.write-head.new.out)
-    (vec_items c.extend-from-slice.new.self)
+    (vec_items c.write_head.new.out)
+    (vec_items c.extend_from_slice.new.self)
     (decimal c.args.number)
     (32 ∷ [])
     (head_text (call_of c.args.command.now))
     (codes ": ")
-    c.in-ok-write-number.ensures
-    c.in-ok-push.ensures.items
-    c.in-ok-write-head.ensures
-    c.in-ok-extend-from-slice.ensures.items
+    c.in_ok-write_number.ensures
+    c.in_ok-push.ensures.items
+    c.in_ok-write_head.ensures
+    c.in_ok-extend_from_slice.ensures.items

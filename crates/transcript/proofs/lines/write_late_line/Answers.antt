@@ -8,12 +8,12 @@ unfolding late_line
 returns c =
     three
     (vec_items c.args.out.now)
-    (vec_items c.extend-from-slice.new.self)
-    (vec_items c.write-number.new.out)
-    (vec_items c.extend-from-slice-2.new.self)
+    (vec_items c.extend_from_slice.new.self)
+    (vec_items c.write_number.new.out)
+    (vec_items c.extend_from_slice-2.new.self)
     (codes "line ")
     (decimal c.args.number)
     (codes ": power set too late\n")
-    c.in-ok-extend-from-slice.ensures.items
-    c.in-ok-write-number.ensures
-    c.in-ok-extend-from-slice-2.ensures.items
+    c.in_ok-extend_from_slice.ensures.items
+    c.in_ok-write_number.ensures
+    c.in_ok-extend_from_slice-2.ensures.items

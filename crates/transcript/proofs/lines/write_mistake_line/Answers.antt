@@ -9,18 +9,18 @@ unfolding mistake_line
 returns c =
     five
     (vec_items c.args.out.now)
-    (vec_items c.extend-from-slice.new.self)
-    (vec_items c.write-number.new.out)
-    (vec_items c.extend-from-slice-2.new.self)
-    (vec_items c.write-mistake.new.out)
+    (vec_items c.extend_from_slice.new.self)
+    (vec_items c.write_number.new.out)
+    (vec_items c.extend_from_slice-2.new.self)
+    (vec_items c.write_mistake.new.out)
     (vec_items c.push.new.self)
     (codes "line ")
     (decimal c.args.number)
     (codes ": ")
     (mistake_text (mistake_of c.args.error.now))
     (10 ∷ [])
-    c.in-ok-extend-from-slice.ensures.items
-    c.in-ok-write-number.ensures
-    c.in-ok-extend-from-slice-2.ensures.items
-    c.in-ok-write-mistake.ensures
-    c.in-ok-push.ensures.items
+    c.in_ok-extend_from_slice.ensures.items
+    c.in_ok-write_number.ensures
+    c.in_ok-extend_from_slice-2.ensures.items
+    c.in_ok-write_mistake.ensures
+    c.in_ok-push.ensures.items

@@ -9,12 +9,12 @@ unfolding refused_line
 returns c =
     three
     (vec_items c.args.out.now)
-    (vec_items c.write-front.new.out)
-    (vec_items c.write-refused.new.out)
+    (vec_items c.write_front.new.out)
+    (vec_items c.write_refused.new.out)
     (vec_items c.push.new.self)
     (front_of c.args.number (call_of c.args.command.now))
     (refused_text c.args.refusal 0 0)
     (10 ∷ [])
-    c.in-ok-write-front.ensures
-    c.in-ok-write-refused.ensures
-    c.in-ok-push.ensures.items
+    c.in_ok-write_front.ensures
+    c.in_ok-write_refused.ensures
+    c.in_ok-push.ensures.items

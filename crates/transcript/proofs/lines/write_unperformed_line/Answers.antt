@@ -9,9 +9,9 @@ unfolding unperformed_line
 returns c =
     two
     (vec_items c.args.out.now)
-    (vec_items c.write-front.new.out)
-    (vec_items c.extend-from-slice.new.self)
+    (vec_items c.write_front.new.out)
+    (vec_items c.extend_from_slice.new.self)
     (front_of c.args.number (call_of c.args.command.now))
     (codes "not performed\n")
-    c.in-ok-write-front.ensures
-    c.in-ok-extend-from-slice.ensures.items
+    c.in_ok-write_front.ensures
+    c.in_ok-extend_from_slice.ensures.items

@@ -82,7 +82,7 @@ fn ends(rt: HostRuntime) -> Result<(), Fail> {
     write_exports_line(&mut out, 3, 1, 0, 2, heap)?;
     assert!(rt;
         out.as_slice()
-            == b"line 7: power set too late\na/b 32768\ntotal 1 key, 32768 bytes\nexports: 3 begun = 1 finished + 0 standing + 2 cleared\n"
+            == b"line 7: power set too late\na/b 32768\ntotal 1 key, 32768 bytes\nexports: 3 begun = 1 finished + 0 standing + 2 cleared\n".as_slice()
     );
     Ok(())
 }

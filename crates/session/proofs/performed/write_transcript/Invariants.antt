@@ -1,7 +1,7 @@
 use Rattle.std.proofs.Common.{◌+◌, ◌≤◌, true, ◌++◌, length, vec_items}
 use Rattle.keys.specs.Text.{Bytes}
 use Rattle.session.specs.Scripts.{lines_of, Transcript, Tells}
-use Rattle.session.proofs.transcript.write_transcript.Given as goal
+use Rattle.session.proofs.performed.write_transcript.Given as goal
 
 abbrev pub invariant-loop-rest : goal.invariant-loop-rest
 invariant-loop-rest l =

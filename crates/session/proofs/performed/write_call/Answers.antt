@@ -3,33 +3,33 @@ use Rattle.script.specs.Commands.{call_of}
 use Rattle.transcript.specs.Answers.{late_line, call_line, refused_line, unperformed_line}
 use Rattle.session.specs.Scripts.{refused}
 use Rattle.session.proofs.Telling.{power_text, none_left, one_used}
-use Rattle.session.proofs.transcript.write_call.Goals as goal
+use Rattle.session.proofs.performed.write_call.Goals as goal
 
-pub returns-then-is-power : goal.returns-then-is-power
-returns-then-is-power c = (
+pub returns-then-is_power : goal.returns-then-is_power
+returns-then-is_power c = (
   cond c.args.early [] (late_line c.args.number),
-  power_text c.args.number c.args.early (call_of c.args.command.now) c.args.answers.now (sym c.if-is-power.ensures),
-  c.in-ok-write-power.ensures,
+  power_text c.args.number c.args.early (call_of c.args.command.now) c.args.answers.now (sym c.if-is_power.ensures),
+  c.in_ok-write_power.ensures,
 )
 
 pub returns-in-Some : goal.returns-in-Some
 returns-in-Some c = (
   refused_line c.args.number (call_of c.args.command.now) c.in-Some.n,
   refused c.in-Some.n c.in-Some.ensures,
-  c.in-ok-write-refused-line.ensures,
+  c.in_ok-write_refused_line.ensures,
 )
 
 pub returns-then-answers-eq0 : goal.returns-then-answers-eq0
 returns-then-answers-eq0 c = (
   unperformed_line c.args.number (call_of c.args.command.now),
-  none_left c.args.number c.args.early (call_of c.args.command.now) c.args.answers.now c.if-answers-eq0.true (sym c.if-is-power.ensures) c.in-default.ensures,
-  c.in-ok-write-unperformed-line.ensures,
+  none_left c.args.number c.args.early (call_of c.args.command.now) c.args.answers.now c.if-answers-eq0.true (sym c.if-is_power.ensures) c.in_default.ensures,
+  c.in_ok-write_unperformed_line.ensures,
 )
 
 pub returns : goal.returns
 returns c =
     let a = c.index-answers-0.result in (
       call_line c.args.number (call_of c.args.command.now) (get_or c.args.answers.now 0 a),
-      one_used c.args.number c.args.early (call_of c.args.command.now) c.args.answers.now a c.if-answers-eq0.false (sym c.if-is-power.ensures) c.in-default.ensures,
-      c.in-ok-write-call-line.ensures ∙ ap (λ x. vec_items c.args.out.now ++ call_line c.args.number (call_of c.args.command.now) x) c.index-answers-0.is,
+      one_used c.args.number c.args.early (call_of c.args.command.now) c.args.answers.now a c.if-answers-eq0.false (sym c.if-is_power.ensures) c.in_default.ensures,
+      c.in_ok-write_call_line.ensures ∙ ap (λ x. vec_items c.args.out.now ++ call_line c.args.number (call_of c.args.command.now) x) c.index-answers-0.is,
     )
