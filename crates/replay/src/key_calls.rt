@@ -1,11 +1,29 @@
 //! Calls on keys and prefixes.
-use crate::fields::{cut, key_of, prefix_of, write_bytes};
+use crate::fields::{bytes_of, cut, write_bytes};
 use crate::outcome::{Outcome, accepted, answered, ordered, refused};
 use atomic_write::atomic_write::temporary_key;
 use keys::store_key::StoreKey;
 use keys::store_prefix::StorePrefix;
 use order::total_order::TotalOrder;
 use std::alloc::{AllocError, Global};
+
+/// The key that a word stands for.
+fn key_of(word: &[u8], heap: Global) -> Result<Option<StoreKey>, AllocError> {
+    let bytes = bytes_of(word, heap)?;
+    match StoreKey::new(bytes.as_slice()) {
+        Ok(key) => Ok(Some(key)),
+        Err(_) => Ok(None),
+    }
+}
+
+/// The prefix that a word stands for.
+fn prefix_of(word: &[u8], heap: Global) -> Result<Option<StorePrefix>, AllocError> {
+    let bytes = bytes_of(word, heap)?;
+    match StorePrefix::new(bytes.as_slice()) {
+        Ok(prefix) => Ok(Some(prefix)),
+        Err(_) => Ok(None),
+    }
+}
 
 /// A prefix.
 fn prefix(out: &mut Vec<u8>, prefix: &StorePrefix) -> Result<Outcome, AllocError> {

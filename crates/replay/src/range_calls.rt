@@ -1,5 +1,5 @@
 //! Calls on byte ranges, and extractions.
-use crate::fields::{bytes_of, cut, number_of, write_bytes, write_number};
+use crate::fields::{bytes_of, cut, number_of, write_bytes};
 use crate::outcome::{Outcome, ordered, refused};
 use extraction::{ExtractError, Note, Place, extract_byte_ranges, extract_byte_ranges_concat};
 use order::total_order::TotalOrder;
@@ -34,7 +34,7 @@ fn bound_of(word: &[u8]) -> Option<Bound> {
 }
 
 /// The ranges of a list; those that can't be read are left out.
-pub fn ranges_of(list: &[u8], heap: Global) -> Result<Vec<ByteRange>, AllocError> {
+fn ranges_of(list: &[u8], heap: Global) -> Result<Vec<ByteRange>, AllocError> {
     let mut ranges = Vec::new(heap);
     let mut rest = list;
     for _ in 0..list.len() {
@@ -48,7 +48,7 @@ pub fn ranges_of(list: &[u8], heap: Global) -> Result<Vec<ByteRange>, AllocError
 }
 
 /// Writes a range.
-pub fn write_range(out: &mut Vec<u8>, range: ByteRange, heap: Global) -> Result<(), AllocError> {
+fn write_range(out: &mut Vec<u8>, range: ByteRange, heap: Global) -> Result<(), AllocError> {
     let text = match range {
         ByteRange::FromStart(offset, Some(length)) => format!(in heap; "f:{offset}:{length}")?,
         ByteRange::FromStart(offset, None) => format!(in heap; "f:{offset}:-")?,
@@ -66,7 +66,9 @@ fn number(
     let Ok(n) = got else {
         return refused(out);
     };
-    write_number(out, n, heap)
+    let text = format!(in heap; "{n}")?;
+    out.extend_from_slice(text.as_bytes())?;
+    Ok(Outcome::Answered)
 }
 
 /// The range of two bounds.
@@ -139,7 +141,7 @@ fn write_refusal(
 }
 
 /// Writes the items that notes place in a buffer.
-pub fn write_items(out: &mut Vec<u8>, buffer: &[u8], notes: &[Note]) -> Result<(), AllocError> {
+fn write_items(out: &mut Vec<u8>, buffer: &[u8], notes: &[Note]) -> Result<(), AllocError> {
     if notes.len() == 0 {
         out.push(b'.')?;
     }

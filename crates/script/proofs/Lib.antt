@@ -3,4 +3,3 @@ pub mod Blanks
 pub mod Hexadecimal
 pub mod Lines
 pub mod Values
-mod Numbers

@@ -1,10 +1,9 @@
 -- What a line says, part by part.
-use Rattle.std.proofs.Common.{◌≡◌, ℕ, true, false, eqb, length, Option, sym, ap, ◌∙◌}
+use Rattle.std.proofs.Common.{◌≡◌, true, false, eqb, length, Option, sym, ap, ◌∙◌}
 use Rattle.std.proofs.lemmas.Bool.{eq-eqb, ne_eqb, cond-true, cond-false}
 use Rattle.script.specs.Words.{Bytes, trimmed, first_word, behind_word}
-use Rattle.script.specs.Numbers.{number_said}
 use Rattle.script.specs.Values.{value_said}
-use Rattle.script.specs.Commands.{Call, Line, asks, wrong, nothing, no_label, no_value, no_number, extra_text, skipped, verb_of, label_of, label_says, value_line, value_says, number_line, number_says, finish_says, verb_says, line_says}
+use Rattle.script.specs.Commands.{Call, Line, asks, wrong, nothing, no_label, no_value, extra_text, skipped, verb_of, label_of, label_says, value_line, value_says, finish_says, verb_says, line_says}
 
 module _ (t u : Bytes) (e : u ≡ trimmed t) where
   none_left : length u ≡ 0 → eqb (length (trimmed t)) 0 ≡ true
@@ -21,13 +20,13 @@ module _ (t u : Bytes) (e : u ≡ trimmed t) where
   unfolding finish_says
   finish_extra c s = ap (λ v. wrong (extra_text v)) e ∙ sym (cond-false (eqb (length (trimmed t)) 0) _ _ (some_left s))
 
-  pub value_missing : (f : Bytes → Call) → length u ≡ 0 → value_says f t ≡ wrong no_value
+  pub value_missing : (l : Bytes) → length u ≡ 0 → value_says l t ≡ wrong no_value
   unfolding value_says
-  value_missing f z = cond-true (eqb (length (trimmed t)) 0) _ _ (none_left z)
+  value_missing l z = cond-true (eqb (length (trimmed t)) 0) _ _ (none_left z)
 
-  pub value_there : (f : Bytes → Call) (o : Option Bytes) → (length u ≡ 0 → ⊥) → o ≡ value_said u → value_says f t ≡ value_line f o
+  pub value_there : (l : Bytes) (o : Option Bytes) → (length u ≡ 0 → ⊥) → o ≡ value_said u → value_says l t ≡ value_line l o
   unfolding value_says
-  value_there f o s p = cond-false (eqb (length (trimmed t)) 0) _ _ (some_left s) ∙ ap (value_line f) (ap value_said (sym e) ∙ sym p)
+  value_there l o s p = cond-false (eqb (length (trimmed t)) 0) _ _ (some_left s) ∙ ap (value_line l) (ap value_said (sym e) ∙ sym p)
 
 pub label_there : (t l r : Bytes) (f : Bytes → Bytes → Line) → eqb (length (first_word t)) 0 ≡ false → l ≡ label_of (first_word t) → r ≡ behind_word t → label_says t f ≡ f l r
 unfolding label_says
@@ -36,18 +35,6 @@ label_there t l r f s p q = cond-false (eqb (length (first_word t)) 0) _ _ s ∙
 pub label_missing : (t : Bytes) (f : Bytes → Bytes → Line) → eqb (length (first_word t)) 0 ≡ true → label_says t f ≡ wrong no_label
 unfolding label_says
 label_missing t f z = cond-true (eqb (length (first_word t)) 0) _ _ z
-
-module _ (t w r : Bytes) (p : w ≡ first_word t) (q : r ≡ behind_word t) where
-  pub number_missing : (f : ℕ → Bytes → Line) → length w ≡ 0 → number_says t f ≡ wrong no_number
-  unfolding number_says
-  number_missing f z = cond-true (eqb (length (first_word t)) 0) _ _ (ap (λ (v : Bytes). eqb (length v) 0) (sym p) ∙ eq-eqb (length w) 0 z)
-
-  pub number_there : (f : ℕ → Bytes → Line) (o : Option ℕ) → (length w ≡ 0 → ⊥) → o ≡ number_said w → number_says t f ≡ number_line o (λ n. f n r)
-  unfolding number_says
-  number_there f o s e =
-      cond-false (eqb (length (first_word t)) 0) _ _ (ap (λ (v : Bytes). eqb (length v) 0) (sym p) ∙ ne_eqb (length w) 0 s)
-      ∙ ap (λ (x : Option ℕ). number_line x (λ n. f n (behind_word t))) (ap number_said (sym p) ∙ sym e)
-      ∙ ap (λ (b : Bytes). number_line o (λ n. f n b)) (sym q)
 
 pub line_skipped : (t w : Bytes) → w ≡ first_word t → skipped w ≡ true → nothing ≡ line_says t
 unfolding line_says

@@ -18,9 +18,9 @@ quoted_said t e =
     let n : (length t - 1) - 1 ≡ length t - 2 = omega arith in
     ap (λ m. Some (take m (drop 1 t))) n ∙ sym (cond-true (is_quoted t) _ _ e)
 
-pub hex-said : (t : Bytes) → is_quoted t ≡ false → is_hex_value t ≡ true → Some (unhex (take (length t - 1) (drop 1 t))) ≡ value_said t
+pub hex_said : (t : Bytes) → is_quoted t ≡ false → is_hex_value t ≡ true → Some (unhex (take (length t - 1) (drop 1 t))) ≡ value_said t
 unfolding value_said
-hex-said t e f = ap (λ u. Some (unhex u)) (take_rest t 1) ∙ (sym (cond-true (is_hex_value t) _ _ f) ∙ sym (cond-false (is_quoted t) _ _ e))
+hex_said t e f = ap (λ u. Some (unhex u)) (take_rest t 1) ∙ (sym (cond-true (is_hex_value t) _ _ f) ∙ sym (cond-false (is_quoted t) _ _ e))
 
 pub none_said : (t : Bytes) → is_quoted t ≡ false → is_hex_value t ≡ false → None ≡ value_said t
 unfolding value_said

@@ -1,7 +1,3 @@
-pub mod Asking
-pub mod Entries
+pub mod Holds
 pub mod Keys
-pub mod Splits
-pub mod Standing
-pub mod Tallies
-pub mod Telling
+pub mod Values

@@ -1,239 +1,97 @@
-//! The calls of a script.
-ghost use Rattle.std.specs.Prelude.{◌≡◌, ◌++◌, map, IfOk, OnOk};
-ghost use Rattle.runs.specs.Events.{Ask, asked};
-ghost use Rattle.script.specs.Commands.{call_of, exporting, patching, on, plainly, line_says};
-ghost use Rattle.script.specs.Values.{bytes_of};
-ghost use Rattle.session.specs.Scripts.{lines_of, KeyOf, PrefixOf, LabelNo, LabelledNo, KeyNo, PrefixNo, CallAsks, LineAsks, ScriptAsks, asked_by, plain_ask, Adds};
+//! One call.
+ghost use Rattle.std.specs.Prelude.{◌≡◌, true, IfOk};
+ghost use Rattle.script.specs.Commands.{call_of};
+ghost use Rattle.session.specs.Calls.{refusal_of, ExportAnswered, ReadAnswered, ListAnswered, Performed};
 
-use crate::lines::next_line;
+use atomic_write::atomic_write::AtomicWriteStorageAdapter;
 use keys::store_key::StoreKey;
-use keys::store_prefix::StorePrefix;
-use patches::Patch;
-use runs::call::Call;
-use script::command::{Command, Labelled, Plain, parse};
-use script::value::Value;
+use script::command::Command;
 use std::alloc::{AllocError, Global};
+use storage::fault::Fault;
+use storage::reads::get;
+use storage::storage_sync::ReadableStorageTraits;
+use storage::storage_sync::writes::{
+    AtomicRenameStorageTraits, ListableStorageTraits, WritableStorageTraits,
+};
+use transcript::answer::{Answer, Refusal};
 
-/// How many bytes a reading takes, and how long a patched value may be.
-const VALUE_LEN: usize = 32768;
-
-/// How many rows a listing takes.
-const ROWS: usize = 64;
-
-/// The key of a label, or the number that refuses it.
-fn key_of(label: &[u8]) -> Result<StoreKey, u8>
-    ensures { KeyOf label.now result }
+/// What is printed of a fault.
+fn refusal(fault: &Fault) -> Refusal
+    ensures { result ≡ refusal_of fault.now }
 {
-    match StoreKey::new(label) {
-        Ok(key) => Ok(key),
-        Err(e) => Err(e.number()),
+    Refusal {
+        number: fault.cause.number(),
+        layer: fault.depth,
+        step: fault.step,
     }
 }
 
-/// The prefix of a label, or the number that refuses it.
-fn prefix_of(label: &[u8]) -> Result<StorePrefix, u8>
-    ensures { PrefixOf label.now result }
-{
-    match StorePrefix::new(label) {
-        Ok(prefix) => Ok(prefix),
-        Err(e) => Err(e.number()),
-    }
-}
-
-/// The number that refuses a label which is no key.
-fn key_no(label: &[u8]) -> Option<u8>
-    ensures { KeyNo label.now result }
-{
-    match key_of(label) {
-        Ok(_) => None,
-        Err(n) => Some(n),
-    }
-}
-
-/// The number that refuses a label which is no prefix.
-fn prefix_no(label: &[u8]) -> Option<u8>
-    ensures { PrefixNo label.now result }
-{
-    match prefix_of(label) {
-        Ok(_) => None,
-        Err(n) => Some(n),
-    }
-}
-
-/// The number that refuses a label which is not what a call on it needs.
-fn labelled_no(what: Labelled, label: &[u8]) -> Option<u8>
-    ensures { LabelledNo what label.now result }
-{
-    match what {
-        Labelled::Read => key_no(label),
-        Labelled::SizeKey => key_no(label),
-        Labelled::Erase => key_no(label),
-        Labelled::ErasePrefix => prefix_no(label),
-        Labelled::ListDir => prefix_no(label),
-        Labelled::SizePrefix => prefix_no(label),
-    }
-}
-
-/// The number that refuses the label of a command.
-pub(crate) fn label_no(command: &Command) -> Option<u8>
-    ensures { LabelNo (call_of command.now) result }
-{
-    match command {
-        Command::Export { label, value: _ } => key_no(label),
-        Command::Patch {
-            label,
-            offset: _,
-            value: _,
-        } => key_no(label),
-        Command::On { what, label } => labelled_no(*what, label),
-        Command::Plain(_) => None,
-        Command::Power { writes: _ } => None,
-    }
-}
-
-/// An export.
-fn export_call(label: &[u8], value: &Value, heap: Global) -> Result<Option<Call>, AllocError>
-    ensures { IfOk result (λ o. CallAsks (exporting label.now (bytes_of value.now)) (asked_by o)) }
-{
-    let Ok(key) = key_of(label) else {
-        return Ok(None);
-    };
-    let bytes = value.to_bytes(heap)?;
-    Ok(Some(Call::Set(key, bytes)))
-}
-
-/// An export of one patch.
-fn patch_call(
+/// Exports a value under a label.
+pub fn export<S: AtomicRenameStorageTraits>(
+    look_box: &mut AtomicWriteStorageAdapter<S>,
     label: &[u8],
-    offset: u64,
-    value: &Value,
-    heap: Global,
-) -> Result<Option<Call>, AllocError>
-    ensures { IfOk result (λ o. CallAsks (patching label.now offset (bytes_of value.now)) (asked_by o)) }
+    value: &[u8],
+) -> Answer
+    ensures { S.ReadableStorageTraits.tidy ≡ true → ExportAnswered S.ReadableStorageTraits label.now value.now look_box.old.storage look_box.new.storage result }
 {
-    let Ok(key) = key_of(label) else {
-        return Ok(None);
+    let key = match StoreKey::new(label) {
+        Ok(key) => key,
+        Err(e) => return Answer::Refused(refusal(&Fault::from(e))),
     };
-    let bytes = value.to_bytes(heap)?;
-    let mut patches = Vec::new(heap);
-    patches.push(Patch {
-        offset,
-        start: 0,
-        len: bytes.as_slice().len(),
-    })?;
-    Ok(Some(Call::SetPartialMany(key, patches, bytes, VALUE_LEN)))
-}
-
-/// A call on a label or a prefix.
-fn labelled_call(what: Labelled, label: &[u8]) -> Option<Call>
-    ensures { CallAsks (on what label.now) (asked_by result) }
-{
-    match what {
-        Labelled::Read => {
-            let Ok(key) = key_of(label) else {
-                return None;
-            };
-            Some(Call::Get(key, VALUE_LEN))
-        }
-        Labelled::SizeKey => {
-            let Ok(key) = key_of(label) else {
-                return None;
-            };
-            Some(Call::SizeKey(key))
-        }
-        Labelled::Erase => {
-            let Ok(key) = key_of(label) else {
-                return None;
-            };
-            Some(Call::Erase(key))
-        }
-        Labelled::ErasePrefix => {
-            let Ok(prefix) = prefix_of(label) else {
-                return None;
-            };
-            Some(Call::ErasePrefix(prefix))
-        }
-        Labelled::ListDir => {
-            let Ok(prefix) = prefix_of(label) else {
-                return None;
-            };
-            Some(Call::ListDir(prefix, ROWS, ROWS))
-        }
-        Labelled::SizePrefix => {
-            let Ok(prefix) = prefix_of(label) else {
-                return None;
-            };
-            Some(Call::SizePrefix(prefix))
-        }
+    match look_box.set(&key, value) {
+        Ok(()) => Answer::Done(value.len()),
+        Err(fault) => Answer::Refused(refusal(&fault)),
     }
 }
 
-/// A call without a label.
-fn plain_call(what: Plain) -> Call
-    ensures { asked result ≡ plain_ask what }
+/// Reads a label back.
+pub fn read<S: ReadableStorageTraits>(
+    store: &S,
+    label: &[u8],
+    heap: Global,
+) -> Result<Answer, AllocError>
+    ensures { IfOk result (λ a. ReadAnswered label.now (S.ReadableStorageTraits.contents store.now) a) }
 {
-    match what {
-        Plain::List => Call::List(ROWS),
-        Plain::Size => Call::Size,
-        Plain::PowerOn => Call::PowerOn,
+    let key = match StoreKey::new(label) {
+        Ok(key) => key,
+        Err(e) => return Ok(Answer::Refused(refusal(&Fault::from(e)))),
+    };
+    let Some(size) = store.size_key(&key) else {
+        return Ok(Answer::Absent);
+    };
+    let mut value = vec![in heap; 0; size as usize]?;
+    match get(store, &key, value.as_mut_slice()) {
+        Ok(Some(_)) => Ok(Answer::Value(value)),
+        Ok(None) => Ok(Answer::Absent),
+        Err(fault) => Ok(Answer::Refused(refusal(&fault))),
     }
 }
 
-/// The call of a command: none where its label is refused, and for the setting of the power.
-fn call_of(command: &Command, heap: Global) -> Result<Option<Call>, AllocError>
-    ensures { IfOk result (λ o. CallAsks (call_of command.now) (asked_by o)) }
+/// Lists every key.
+pub fn list<S: ListableStorageTraits>(store: &S, heap: Global) -> Result<Answer, AllocError>
+    ensures { IfOk result (λ a. ListAnswered (S.ReadableStorageTraits.contents store.now) a) }
+{
+    let mut keys = Vec::new(heap);
+    while let Some(key) = store.key_at(keys.len()) {
+        keys.push(key)?;
+    }
+    Ok(Answer::Keys(keys))
+}
+
+/// Performs a command on the box.
+pub fn perform<S: AtomicRenameStorageTraits + ListableStorageTraits>(
+    look_box: &mut AtomicWriteStorageAdapter<S>,
+    command: &Command,
+    heap: Global,
+) -> Result<Answer, AllocError>
+    ensures { S.ReadableStorageTraits.tidy ≡ true → IfOk result (λ a. Performed S.ReadableStorageTraits (call_of command.now) look_box.old.storage look_box.new.storage a) }
 {
     match command {
-        Command::Export { label, value } => export_call(label, value, heap),
-        Command::Patch {
-            label,
-            offset,
-            value,
-        } => patch_call(label, *offset, value, heap),
-        Command::On { what, label } => Ok(labelled_call(*what, label)),
-        Command::Plain(what) => Ok(Some(plain_call(*what))),
-        Command::Power { writes: _ } => Ok(None),
-    }
-}
-
-/// Appends the call of a command, if it has one.
-fn push_command(calls: &mut Vec<Call>, command: &Command, heap: Global) -> Result<(), AllocError>
-    ensures { OnOk result (Adds (CallAsks (call_of command.now)) calls.old.items calls.new.items) }
-{
-    match call_of(command, heap)? {
-        Some(call) => {
-            calls.push(call)?;
-            Ok(())
+        Command::Export { label, value } => {
+            let bytes = value.to_bytes(heap)?;
+            Ok(export(look_box, label, bytes.as_slice()))
         }
-        None => Ok(()),
+        Command::Read { label } => read(look_box, label, heap),
+        Command::List => list(look_box, heap),
     }
-}
-
-/// Appends the call of a line, if it has one.
-fn push_call(calls: &mut Vec<Call>, line: &[u8], heap: Global) -> Result<(), AllocError>
-    ensures { OnOk result (Adds (LineAsks (line_says line.now)) calls.old.items calls.new.items) }
-{
-    match parse(line) {
-        Ok(said) => {
-            match said {
-                Some(command) => push_command(calls, &command, heap),
-                None => Ok(()),
-            }
-        }
-        Err(_) => Ok(()),
-    }
-}
-
-/// The calls of a script, in order. A label that is no key, or no prefix, makes no call.
-pub fn calls_of(script: &[u8], heap: Global) -> Result<Vec<Call>, AllocError>
-    ensures { IfOk result (λ v. ScriptAsks (lines_of script.now) (map asked v.items)) }
-{
-    let mut calls = Vec::new(heap);
-    let mut rest = script;
-    while rest.len() > 0 {
-        let (line, more) = next_line(rest);
-        push_call(&mut calls, line, heap)?;
-        rest = more;
-    }
-    Ok(calls)
 }

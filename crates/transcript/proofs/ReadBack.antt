@@ -66,14 +66,14 @@ value_back v h = cond_both (printable v) (quote ∷ (v ++ (quote ∷ []))) (hex_
 
 -- the parts of a value, one behind the other
 module _ (o a d v : Bytes) where
-  pub text-put : (b : Bytes) → printable v ≡ true → a ≡ o ++ (quote ∷ []) → b ≡ a ++ v → d ≡ b ++ (quote ∷ []) → d ≡ o ++ value_text v
+  pub text_put : (b : Bytes) → printable v ≡ true → a ≡ o ++ (quote ∷ []) → b ≡ a ++ v → d ≡ b ++ (quote ∷ []) → d ≡ o ++ value_text v
   unfolding value_text
-  text-put b p e f g =
+  text_put b p e f g =
       g
       ∙ (ap (λ l. l ++ (quote ∷ [])) (f ∙ ap (λ l. l ++ v) e)
       ∙ (append_assoc (o ++ (quote ∷ [])) v (quote ∷ [])
       ∙ (append_assoc o (quote ∷ []) (v ++ (quote ∷ [])) ∙ ap (λ l. o ++ l) (sym (cond-true (printable v) _ _ p)))))
 
-  pub hex-put : printable v ≡ false → a ≡ o ++ (hex_mark ∷ []) → d ≡ a ++ hex v → d ≡ o ++ value_text v
+  pub hex_put : printable v ≡ false → a ≡ o ++ (hex_mark ∷ []) → d ≡ a ++ hex v → d ≡ o ++ value_text v
   unfolding value_text
-  hex-put p e f = f ∙ (ap (λ l. l ++ hex v) e ∙ (append_assoc o (hex_mark ∷ []) (hex v) ∙ ap (λ l. o ++ l) (sym (cond-false (printable v) _ _ p))))
+  hex_put p e f = f ∙ (ap (λ l. l ++ hex v) e ∙ (append_assoc o (hex_mark ∷ []) (hex v) ∙ ap (λ l. o ++ l) (sym (cond-false (printable v) _ _ p))))

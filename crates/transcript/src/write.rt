@@ -1,10 +1,12 @@
-//! Values and labels written as a script has them.
+//! Values and calls written as a script has them.
 ghost use Rattle.std.specs.Prelude.{◌≡◌, ◌++◌, Some, OnOk};
+ghost use Rattle.script.specs.Commands.{call_of, exporting, reading};
 ghost use Rattle.script.specs.Values.{value_said};
-ghost use Rattle.transcript.specs.Written.{shown_byte, printable, value_text, label_text};
+ghost use Rattle.transcript.specs.Written.{shown_byte, printable, value_text, label_text, WrittenAs};
 
+use script::command::Command;
 use script::hex::encode;
-use std::alloc::AllocError;
+use std::alloc::{AllocError, Global};
 
 /// True for printable ASCII other than a quote.
 fn is_shown(b: u8) -> bool
@@ -58,4 +60,41 @@ pub(crate) fn write_label(out: &mut Vec<u8>, label: &[u8]) -> Result<(), AllocEr
         return Ok(());
     }
     out.extend_from_slice(label)
+}
+
+/// Writes an export.
+fn write_export(out: &mut Vec<u8>, label: &[u8], bytes: &[u8]) -> Result<(), AllocError>
+    ensures { OnOk result (WrittenAs (exporting label.now bytes.now) out.old.items out.new.items) }
+{
+    out.extend_from_slice(b"export ")?;
+    write_label(out, label)?;
+    out.push(b' ')?;
+    write_value(out, bytes)?;
+    Ok(())
+}
+
+/// Writes a reading.
+fn write_read(out: &mut Vec<u8>, label: &[u8]) -> Result<(), AllocError>
+    ensures { OnOk result (WrittenAs (reading label.now) out.old.items out.new.items) }
+{
+    out.extend_from_slice(b"read ")?;
+    write_label(out, label)?;
+    Ok(())
+}
+
+/// Writes a command as a line of a script, which reads back as the same call.
+pub fn write_command(out: &mut Vec<u8>, command: &Command, heap: Global) -> Result<(), AllocError>
+    ensures { OnOk result (WrittenAs (call_of command.now) out.old.items out.new.items) }
+{
+    match command {
+        Command::Export { label, value } => {
+            let bytes = value.to_bytes(heap)?;
+            write_export(out, label, bytes.as_slice())
+        }
+        Command::Read { label } => write_read(out, label),
+        Command::List => {
+            out.extend_from_slice(b"list")?;
+            Ok(())
+        }
+    }
 }

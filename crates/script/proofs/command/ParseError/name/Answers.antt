@@ -7,9 +7,3 @@ returns-in-UnknownWord c = sym (ap (λ e. mistake_name (mistake_of e)) c.in-Unkn
 
 pub returns-in-ExtraText : goal.returns-in-ExtraText
 returns-in-ExtraText c = sym (ap (λ e. mistake_name (mistake_of e)) c.in-ExtraText.is)
-
-pub returns-in-NoNumber : goal.returns-in-NoNumber
-returns-in-NoNumber c = sym (ap (λ e. mistake_name (mistake_of e)) c.in-NoNumber.is)
-
-pub returns-in-BadNumber : goal.returns-in-BadNumber
-returns-in-BadNumber c = sym (ap (λ e. mistake_name (mistake_of e)) c.in-BadNumber.is)

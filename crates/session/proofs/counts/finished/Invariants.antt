@@ -1,7 +1,0 @@
-use Rattle.std.proofs.Common.{◌≡◌, ◌+◌, ◌≤◌, drop}
-use Rattle.runs.specs.Events.{events}
-use Rattle.runs.specs.Laws.{any, finished_in}
-use Rattle.session.proofs.counts.finished.Given as goal
-
-abbrev pub invariant-loop-i : goal.invariant-loop-i
-invariant-loop-i l = (l.n ≤ l.i) × (l.n + finished_in any (events (drop l.i l.calls) (drop l.i l.answers)) ≡ finished_in any (events l.calls l.answers))
