@@ -1,7 +1,9 @@
 -- What the steps of an export come to.
-use Rattle.std.specs.Prelude.{◌≡◌, ℕ, ◌-◌, true, false, List, length, take, is_some, Some, None, Ok, Err, Option, Result, refl}
+use Rattle.std.specs.Prelude.{◌≡◌, ℕ, ◌-◌, true, false, List, length, take, is_ok, is_some, MatchResult, Some, None, Ok, Err, Option, Result, refl}
 use Rattle.std.proofs.Common.{sym, ◌∙◌, ap, subst, arith}
 use Rattle.std.specs.Option.{option_map}
+use Rattle.std.specs.Result.{IsErrAnd}
+use Rattle.std.proofs.lemmas.Result.{err_from_is_err_and}
 use Rattle.keys.specs.Text.{Bytes}
 use Rattle.storage.specs.Contents.{Contents, found, sized, bytes_of, put, moved}
 use Rattle.storage.specs.Faults.{own, raised, at_step, fault_of, answered}
@@ -55,10 +57,12 @@ pub stored_at :
     {S : Type 0} (m : Ghosts S) (k v t : Bytes) (s s'' s' : S)
     → found t (m.contents s) ≡ None
     → Wrote {A = Unit {0}} m (set t v) (Ok tt) s s''
-    → Wrote {A = Unit {0}} m (rename t k) (Ok tt) s'' s'
+    → (r : Result (Unit {0}) Fault)
+    → Wrote m (rename t k) r s'' s'
+    → is_ok r ≡ true
     → m.contents s' ≡ put k v (m.contents s)
-stored_at m k v t s s'' s' none first second =
-    second.accepted refl ∙ ap (moved t k) (first.accepted refl) ∙ moved-put t k v (m.contents s) none
+stored_at m k v t s s'' s' none first r second done =
+    second.accepted done ∙ ap (moved t k) (first.accepted refl) ∙ moved-put t k v (m.contents s) none
 
 -- no length is there where the value is not
 pub absent_at : (t : Bytes) (c : Contents) (r : Option ℕ) → r ≡ sized (found t c) → false ≡ is_some r → found t c ≡ None
@@ -85,7 +89,17 @@ module _ {S : Type 0} (m : Ghosts S) (k v t : Bytes) (s s' : S) (tidy : m.tidy �
     pub finished_at : Wrote {A = Unit {0}} m (rename t k) (Ok tt) s'' s' → Exported m k v s s' (Ok tt)
     finished_at w =
         finished no.1 begun
-        (stored_at m k v t s s'' s' (ap (λ (x : Bytes). found x (m.contents s)) is ∙ no.0) first w)
+        (stored_at m k v t s s'' s' (ap (λ (x : Bytes). found x (m.contents s)) is ∙ no.0) first (Ok tt) w refl)
+
+    -- the second step, by what the store below said of it
+    pub ended_at :
+        (P : Fault → Fault → Type 0) (a r : Result (Unit {0}) Fault)
+        → ((f g : Fault) → P f g → g ≡ at_step 2 (raised f))
+        → Wrote m (rename t k) a s'' s'
+        → MatchResult a (λ u. r ≡ Ok u) (λ f. IsErrAnd r (P f))
+        → Exported m k v s s' r
+    ended_at P (Ok u) r says w h = subst (λ (x : Result (Unit {0}) Fault). Exported m k v s s' x) (sym h) (finished_at w)
+    ended_at P (Err f) r says w h = let p = err_from_is_err_and r h in rw p.1 (unfinished_at f p.0 (says f p.0 p.2) w)
 
 -- a value built in the work buffer, and exported from its front
 module _ {S : Type 0} (m : Ghosts S) (k d : Bytes) (ps : List Patch) (s : S) (work work₁ v : Bytes) (n : ℕ)

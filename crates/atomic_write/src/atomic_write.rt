@@ -44,8 +44,7 @@ impl<S> AtomicWriteStorageAdapter<S> {
     pub fn into_inner(self) -> S
         ensures { result ≡ self.storage }
     {
-        let AtomicWriteStorageAdapter { storage } = self;
-        storage
+        self.storage
     }
 }
 
@@ -75,10 +74,9 @@ impl<S: ReadableStorageTraits> ReadableStorageTraits for AtomicWriteStorageAdapt
         out: &mut [u8],
         notes: &mut [Note],
     ) -> Result<Option<usize>, Fault> {
-        match self.storage.get_partial_many(key, ranges, out, notes) {
-            Ok(n) => Ok(n),
-            Err(f) => Err(f.raised()),
-        }
+        self.storage
+            .get_partial_many(key, ranges, out, notes)
+            .map_err(Fault::raised)
     }
 
     fn supports_get_partial(&self) -> bool {

@@ -5,7 +5,7 @@ use Rattle.std.specs.List.{flat_map}
 use Rattle.std.proofs.lemmas.List.{append_assoc, take-append-drop, take_more, flat_map_more, length-append, length-take-le, take_all, drop_more, set_at}
 use Rattle.std.proofs.lemmas.List.Edits.{paste-paste}
 use Rattle.ranges.specs.declared.byte_range.ByteRange.{ByteRange}
-use Rattle.extraction.specs.declared.Note.{Note}
+use Rattle.extraction.specs.Notes.{Note}
 use Rattle.ranges.specs.Ranges.{Bytes, picked}
 use Rattle.ranges.specs.Buffers.{fronted}
 use Rattle.extraction.specs.Extracts.{items, note_at, notes_from}

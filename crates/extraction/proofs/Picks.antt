@@ -5,9 +5,14 @@ use Rattle.std.proofs.lemmas.List.{take_rest}
 use Rattle.ranges.specs.declared.byte_range.ByteRange.{ByteRange}
 use Rattle.ranges.specs.declared.byte_range.ByteRange.TheVariants.{FromStart, Suffix}
 use Rattle.ranges.specs.Ranges.{Bytes, fitting, inside, picked, only_if}
-use Rattle.ranges.specs.Refusals.{Refusal, refusal, unfit, unless}
+use Rattle.ranges.specs.declared.byte_range.InvalidByteRangeError.{InvalidByteRangeError}
+use Rattle.std.specs.Prelude.{IsErrAnd}
+use Rattle.ranges.specs.Refusals.{Refusal, refusal, range_refusal, told, unfit, unless}
+use Rattle.extraction.specs.Notes.{Note}
+use Rattle.extraction.specs.declared.ExtractError.{ExtractError}
+use Rattle.extraction.specs.declared.ExtractError.TheVariants.{Unfit}
 use Rattle.ranges.proofs.Questions.{bad_none, bad_next, bad_here, room_short, room_enough}
-use Rattle.extraction.specs.Extracts.{one_no}
+use Rattle.extraction.specs.Extracts.{extract_refusal, note_at, one_no}
 
 -- the bytes of a range that fits, as an answer
 pub picked_fits : (b : Bytes) (r : ByteRange) → fitting r (length b) ≡ true → picked b r ≡ inside b r
@@ -57,3 +62,16 @@ module _ (b : Bytes) (r : ByteRange) where
 
   pub one_yes : (space n : ℕ) → fitting r (length b) ≡ true → n ≡ length (picked b r) → n ≤ space → Ok n ≡ unless (one_no b r space) (length (picked b r))
   one_yes space n f e h = rw (bad_next (λ q. fitting q (length b)) (λ j q. unfit j q (length b)) 0 r [] f, bad_none (λ q. fitting q (length b)) (λ j q. unfit j q (length b)) (0 + 1), room_enough space (length (picked b r)) (omega arith), e)
+
+  -- what `pick` refuses, told as an extraction of one range
+  pub one_told : (space : ℕ) (e : InvalidByteRangeError) (q : Result ℕ ExtractError) → ◌≡◌ {A = Result Bytes Refusal} (Err (range_refusal e)) (ok_or (only_if (fitting r (length b)) (inside b r)) (unfit 0 r (length b))) → IsErrAnd q (λ x. x ≡ Unfit 0 e) → told extract_refusal q ≡ unless (one_no b r space) (length (picked b r))
+  one_told space e (Ok n) h k = absurd k
+  one_told space e (Err x) h k =
+      let p = err_only (fitting r (length b)) (inside b r) (unfit 0 r (length b)) (range_refusal e) h in
+      ap (λ z. Err (extract_refusal z)) k ∙ one_no_lem space (range_refusal e) p.0 p.1
+
+  -- the note of what `pick` answers
+  pub noted_ok : (at : ℕ) (x : Bytes) → ◌≡◌ {A = Result Bytes Refusal} (Ok x) (ok_or (only_if (fitting r (length b)) (inside b r)) (unfit 0 r (length b))) → ◌≡◌ {A = Note} (Ok (record { start = at; len = length x })) (note_at at b r)
+  noted_ok at x h =
+      let p = ok_only (fitting r (length b)) (inside b r) (unfit 0 r (length b)) x h in
+      rw (p.0, picked_from_ok b r (unfit 0 r (length b)) x h) refl

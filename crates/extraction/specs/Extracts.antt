@@ -1,9 +1,8 @@
 -- Extraction of ranges from bytes: the bytes put end to end, a note for each range, and the questions before.
-use Rattle.std.specs.Prelude.{ℕ, ◌+◌, cond, List, [], ◌∷◌, length, Option}
+use Rattle.std.specs.Prelude.{ℕ, ◌+◌, cond, List, [], ◌∷◌, length, Option, Ok, Err}
 use Rattle.std.specs.List.{flat_map}
 use Rattle.ranges.specs.declared.byte_range.ByteRange.{ByteRange}
-use Rattle.extraction.specs.declared.Note.{Note}
-use Rattle.extraction.specs.declared.Note.TheVariants as note
+use Rattle.extraction.specs.Notes.{Note}
 use Rattle.ranges.specs.Ranges.{Bytes, fitting, picked}
 use Rattle.extraction.specs.declared.ExtractError.{ExtractError}
 use Rattle.extraction.specs.declared.ExtractError.TheVariants.{TooMany, Unfit, Short}
@@ -23,8 +22,8 @@ items b rs = flat_map (picked b) rs
 abbrev pub note_at : ℕ → Bytes → ByteRange → Note
 note_at at b r =
     cond (fitting r (length b))
-    (note.Bytes (record { start = at; len = length (picked b r) }))
-    (note.Fault (record { range = r; size = length b }))
+    (Ok (record { start = at; len = length (picked b r) }))
+    (Err (record { range = r; size = length b }))
 
 -- the notes of ranges whose bytes are put end to end from a place on
 unfoldable pub notes_from : ℕ → Bytes → List ByteRange → List Note

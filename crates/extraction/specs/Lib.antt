@@ -1,1 +1,2 @@
 pub mod Extracts
+pub mod Notes

@@ -7,6 +7,7 @@ ghost use Rattle.std.specs.Option.{ok_or};
 ghost use Rattle.ranges.specs.Ranges.{only_if, in_u64, fitting, inside, picked};
 ghost use Rattle.ranges.specs.Refusals.{told, valued, unless, range_refusal, unfit, all_fit, room};
 ghost use Rattle.ranges.specs.Buffers.{fronted};
+ghost use Rattle.extraction.specs.declared.ExtractError.TheVariants.{Unfit};
 ghost use Rattle.extraction.specs.Extracts.{extract_refusal, items, note_at, notes_from, ranges_no, one_no, concat_no, extract_no, read_no};
 
 use ranges::byte_range::{ByteRange, InvalidByteRangeError};
@@ -21,12 +22,8 @@ pub struct Place {
     pub len: usize,
 }
 
-/// What became of one range: its bytes, with their place in the output, or its fault.
-#[derive(Clone, Copy, PartialEq, Eq)]
-pub enum Note {
-    Bytes(Place),
-    Fault(InvalidByteRangeError),
-}
+/// What became of one range: the place of its bytes in the output, or its fault.
+pub type Note = Result<Place, InvalidByteRangeError>;
 
 /// Why an extraction is refused.
 #[derive(Clone, Copy, PartialEq, Eq)]
@@ -49,6 +46,15 @@ impl ExtractError {
             ExtractError::Unfit(_, _) => 4,
             ExtractError::Short => 9,
         }
+    }
+}
+
+/// A range that is asked for alone, and does not fit, has index 0.
+impl From<InvalidByteRangeError> for ExtractError {
+    ghost from_gives = { λ e x. x ≡ Unfit 0 e };
+
+    fn from(e: InvalidByteRangeError) -> ExtractError {
+        ExtractError::Unfit(0, e)
     }
 }
 
@@ -150,17 +156,11 @@ fn cut(bytes: &[u8], range: ByteRange) -> &[u8]
 fn check_range(bytes: &[u8], range: ByteRange, space: usize) -> Result<usize, ExtractError>
     ensures { told extract_refusal result ≡ unless (one_no bytes.now range space) (length (picked bytes.now range)) }
 {
-    match pick(bytes, range) {
-        Err(e) => Err(ExtractError::Unfit(0, e)),
-        Ok(part) => {
-            let n = part.len();
-            if space < n {
-                Err(ExtractError::Short)
-            } else {
-                Ok(n)
-            }
-        }
+    let n = pick(bytes, range)?.len();
+    if space < n {
+        return Err(ExtractError::Short);
     }
+    Ok(n)
 }
 
 // Are there at most 64 ranges, and does each fit `n` bytes?
@@ -265,20 +265,17 @@ fn note_ranges(bytes: &[u8], ranges: &[ByteRange], notes: &mut [Note])
 {
     let mut at: usize = 0;
     for (i, range) in ranges.iter().enumerate() {
-        let len = picked_len(bytes, *range);
-        notes[i] = note_of(bytes, *range, at, len);
-        at += len;
+        notes[i] = note_of(bytes, *range, at);
+        at += picked_len(bytes, *range);
     }
 }
 
-fn note_of(bytes: &[u8], range: ByteRange, start: usize, len: usize) -> Note
-    requires { len ≡ length (picked bytes.now range) }
+fn note_of(bytes: &[u8], range: ByteRange, start: usize) -> Note
     ensures { result ≡ note_at start bytes.now range }
 {
-    let size = bytes.len() as u64;
-    if range.fits(size) {
-        Note::Bytes(Place { start, len })
-    } else {
-        Note::Fault(InvalidByteRangeError { range, size })
-    }
+    let part = pick(bytes, range)?;
+    Ok(Place {
+        start,
+        len: part.len(),
+    })
 }

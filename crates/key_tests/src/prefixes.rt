@@ -1,57 +1,49 @@
 use keys::store_prefix::StorePrefix;
-use order::total_order::TotalOrder;
 use std::cmp::Ordering;
 
-/// The number with which bytes are refused as a prefix; 0 for a prefix.
-fn refusal(bytes: &[u8]) -> u8 {
-    match StorePrefix::new(bytes) {
-        Ok(_) => 0,
-        Err(e) => e.number(),
-    }
+/// The number with which bytes are refused as a prefix; none for a prefix.
+fn refusal(bytes: &[u8]) -> Option<u8> {
+    StorePrefix::new(bytes).err().map(|e| e.number())
 }
 
 /// The prefix of these bytes, or the root prefix.
 fn prefix(bytes: &[u8]) -> StorePrefix {
-    match StorePrefix::new(bytes) {
-        Ok(prefix) => prefix,
-        Err(_) => StorePrefix::root(),
-    }
+    StorePrefix::new(bytes).unwrap_or(StorePrefix::root())
 }
 
 fn parent_is(bytes: &[u8], parent: &[u8]) -> bool {
-    match prefix(bytes).parent() {
-        Some(p) => p.as_bytes() == parent,
-        None => false,
-    }
+    prefix(bytes)
+        .parent()
+        .is_some_and(|p| p.as_bytes() == parent)
 }
 
 fn order(a: &[u8], b: &[u8]) -> Ordering {
-    prefix(a).compare(&prefix(b))
+    prefix(a).cmp(&prefix(b))
 }
 
 #[test]
 fn prefix_lengths(rt: HostRuntime) {
     let mut long = [b'a'; 122];
-    assert_eq!(rt; refusal(&long[0..120]), 2);
-    assert_eq!(rt; refusal(&long), 3);
+    assert_eq!(rt; refusal(&long[0..120]), Some(2));
+    assert_eq!(rt; refusal(&long), Some(3));
     long[119] = b'/';
-    assert_eq!(rt; refusal(&long[0..120]), 0);
+    assert_eq!(rt; refusal(&long[0..120]), None);
     long[120] = b'/';
-    assert_eq!(rt; refusal(&long[0..121]), 0);
+    assert_eq!(rt; refusal(&long[0..121]), None);
     long[121] = b'/';
-    assert_eq!(rt; refusal(&long), 3);
+    assert_eq!(rt; refusal(&long), Some(3));
     assert!(rt; StorePrefix::validate(&long));
 }
 
 #[test]
 fn prefix_rule(rt: HostRuntime) {
-    assert_eq!(rt; refusal(b""), 0);
-    assert_eq!(rt; refusal(b"a/"), 0);
-    assert_eq!(rt; refusal(b"a//"), 0);
-    assert_eq!(rt; refusal(b"a/b/"), 0);
-    assert_eq!(rt; refusal(b"/"), 2);
-    assert_eq!(rt; refusal(b"a"), 2);
-    assert_eq!(rt; refusal(b"/a/"), 2);
+    assert_eq!(rt; refusal(b""), None);
+    assert_eq!(rt; refusal(b"a/"), None);
+    assert_eq!(rt; refusal(b"a//"), None);
+    assert_eq!(rt; refusal(b"a/b/"), None);
+    assert_eq!(rt; refusal(b"/"), Some(2));
+    assert_eq!(rt; refusal(b"a"), Some(2));
+    assert_eq!(rt; refusal(b"/a/"), Some(2));
 }
 
 #[test]

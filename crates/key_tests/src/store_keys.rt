@@ -1,43 +1,31 @@
-use keys::store_key::StoreKey;
+use keys::store_key::{StoreKey, StoreKeyError};
 use keys::store_prefix::StorePrefix;
-use order::total_order::TotalOrder;
 use std::cmp::Ordering;
 
-/// The number with which bytes are refused as a key; 0 for a key.
-fn refusal(bytes: &[u8]) -> u8 {
-    match StoreKey::new(bytes) {
-        Ok(_) => 0,
-        Err(e) => e.number(),
-    }
+/// The number with which bytes are refused as a key; none for a key.
+fn refusal(bytes: &[u8]) -> Option<u8> {
+    StoreKey::new(bytes).err().map(|e| e.number())
 }
 
 /// The key of these bytes, or the root key.
 fn key(bytes: &[u8]) -> StoreKey {
-    match StoreKey::new(bytes) {
-        Ok(key) => key,
-        Err(_) => StoreKey::root(),
-    }
+    StoreKey::new(bytes).unwrap_or(StoreKey::root())
 }
 
 /// The prefix of these bytes, or the root prefix.
 fn prefix(bytes: &[u8]) -> StorePrefix {
-    match StorePrefix::new(bytes) {
-        Ok(prefix) => prefix,
-        Err(_) => StorePrefix::root(),
-    }
+    StorePrefix::new(bytes).unwrap_or(StorePrefix::root())
 }
 
-/// 0 where the two are the same, else 255.
-fn wrong(a: &[u8], b: &[u8]) -> u8 {
-    if a == b { 0 } else { 255 }
+/// Whether a key is `whole`, or the number of its refusal.
+fn is_key(made: Result<StoreKey, StoreKeyError>, whole: &[u8]) -> Result<bool, u8> {
+    made.map(|key| key.as_bytes() == whole)
+        .map_err(|e| e.number())
 }
 
-/// The number with which a suffix is refused; 0 where the key of both is `whole`.
-fn joined(front: &[u8], suffix: &[u8], whole: &[u8]) -> u8 {
-    match key(front).joined(suffix) {
-        Ok(made) => wrong(made.as_bytes(), whole),
-        Err(e) => e.number(),
-    }
+/// Whether the key with the suffix behind it is `whole`, or the number of its refusal.
+fn joined(front: &[u8], suffix: &[u8], whole: &[u8]) -> Result<bool, u8> {
+    is_key(key(front).joined(suffix), whole)
 }
 
 fn parent_is(bytes: &[u8], parent: &[u8]) -> bool {
@@ -52,50 +40,47 @@ fn under(bytes: &[u8], front: &[u8]) -> bool {
     key(bytes).has_prefix(&prefix(front))
 }
 
-/// The number with which a prefix is refused as a key; 0 where its key is `whole`.
-fn from_prefix(bytes: &[u8], whole: &[u8]) -> u8 {
-    match StoreKey::from_prefix(&prefix(bytes)) {
-        Ok(made) => wrong(made.as_bytes(), whole),
-        Err(e) => e.number(),
-    }
+/// Whether the key of the prefix is `whole`, or the number of its refusal.
+fn from_prefix(bytes: &[u8], whole: &[u8]) -> Result<bool, u8> {
+    is_key(StoreKey::try_from(&prefix(bytes)), whole)
 }
 
 fn order(a: &[u8], b: &[u8]) -> Ordering {
-    key(a).compare(&key(b))
+    key(a).cmp(&key(b))
 }
 
 #[test]
 fn key_lengths(rt: HostRuntime) {
     let long = [b'a'; 122];
-    assert_eq!(rt; refusal(&long[0..0]), 0);
-    assert_eq!(rt; refusal(&long[0..1]), 0);
-    assert_eq!(rt; refusal(&long[0..119]), 0);
-    assert_eq!(rt; refusal(&long[0..120]), 0);
-    assert_eq!(rt; refusal(&long[0..121]), 3);
-    assert_eq!(rt; refusal(&long), 3);
-    assert_eq!(rt; refusal(&[b'/'; 121]), 3);
+    assert_eq!(rt; refusal(&long[0..0]), None);
+    assert_eq!(rt; refusal(&long[0..1]), None);
+    assert_eq!(rt; refusal(&long[0..119]), None);
+    assert_eq!(rt; refusal(&long[0..120]), None);
+    assert_eq!(rt; refusal(&long[0..121]), Some(3));
+    assert_eq!(rt; refusal(&long), Some(3));
+    assert_eq!(rt; refusal(&[b'/'; 121]), Some(3));
     assert!(rt; StoreKey::validate(&long));
 }
 
 #[test]
 fn key_rule(rt: HostRuntime) {
-    assert_eq!(rt; refusal(b"a/b"), 0);
-    assert_eq!(rt; refusal(b"a/b/c.d"), 0);
-    assert_eq!(rt; refusal(b"/"), 1);
-    assert_eq!(rt; refusal(b"/a"), 1);
-    assert_eq!(rt; refusal(b"a/"), 1);
-    assert_eq!(rt; refusal(b"a//b"), 1);
-    assert_eq!(rt; refusal(b"a/b//c"), 1);
+    assert_eq!(rt; refusal(b"a/b"), None);
+    assert_eq!(rt; refusal(b"a/b/c.d"), None);
+    assert_eq!(rt; refusal(b"/"), Some(1));
+    assert_eq!(rt; refusal(b"/a"), Some(1));
+    assert_eq!(rt; refusal(b"a/"), Some(1));
+    assert_eq!(rt; refusal(b"a//b"), Some(1));
+    assert_eq!(rt; refusal(b"a/b//c"), Some(1));
     assert!(rt; StoreKey::validate(b""));
 }
 
 #[test]
 fn key_joined(rt: HostRuntime) {
-    assert_eq!(rt; joined(b"a/b", b".tmp", b"a/b.tmp"), 0);
-    assert_eq!(rt; joined(b"a/b", b"", b"a/b"), 0);
-    assert_eq!(rt; joined(b"a/b", b"/", b""), 1);
-    assert_eq!(rt; joined(&[b'a'; 116], b"aaaa", &[b'a'; 120]), 0);
-    assert_eq!(rt; joined(&[b'a'; 116], b"/aaaa", b""), 3);
+    assert_eq!(rt; joined(b"a/b", b".tmp", b"a/b.tmp"), Ok(true));
+    assert_eq!(rt; joined(b"a/b", b"", b"a/b"), Ok(true));
+    assert_eq!(rt; joined(b"a/b", b"/", b""), Err(1));
+    assert_eq!(rt; joined(&[b'a'; 116], b"aaaa", &[b'a'; 120]), Ok(true));
+    assert_eq!(rt; joined(&[b'a'; 116], b"/aaaa", b""), Err(3));
 }
 
 #[test]
@@ -121,10 +106,10 @@ fn key_prefixes(rt: HostRuntime) {
 fn key_from_prefix(rt: HostRuntime) {
     let mut long = [b'a'; 121];
     long[120] = b'/';
-    assert_eq!(rt; from_prefix(&long, &[b'a'; 120]), 0);
-    assert_eq!(rt; from_prefix(b"a/b/", b"a/b"), 0);
-    assert_eq!(rt; from_prefix(b"", b""), 0);
-    assert_eq!(rt; from_prefix(b"a//", b""), 1);
+    assert_eq!(rt; from_prefix(&long, &[b'a'; 120]), Ok(true));
+    assert_eq!(rt; from_prefix(b"a/b/", b"a/b"), Ok(true));
+    assert_eq!(rt; from_prefix(b"", b""), Ok(true));
+    assert_eq!(rt; from_prefix(b"a//", b""), Err(1));
 }
 
 #[test]

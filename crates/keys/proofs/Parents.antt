@@ -25,6 +25,9 @@ not_longer t p q (l, e, free, _) (m, f, _, final) h =
     free_at l free (length q - 1 - length p) (omega arith)
     (sym (get_or-append_right p l (length p) (length q - 1) 0 refl (omega arith)) ∙ ap (λ z. get_or z (length q - 1) 0) (sym e ∙ f) ∙ get_or_append_left q m 0 (length q - 1) (omega arith) ∙ s)
 
+pub parent_within : (t p : Bytes) → Parent t p → length p ≤ length t
+parent_within t p (l, e, _, _) = omega (arith, ap length e ∙ length-append p l)
+
 -- a text has one parent
 pub parent_unique : (t p q : Bytes) → Parent t p → Parent t q → p ≡ q
 parent_unique t p q a b =

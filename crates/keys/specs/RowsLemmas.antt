@@ -2,7 +2,13 @@
 use Rattle.std.specs.Prelude.{◌≡◌, ◌<◌, length, take}
 use Rattle.std.proofs.Common.{sym, ap, ◌∙◌, arith, length-take}
 use Rattle.order.specs.Orders.{Lawful}
-use Rattle.order.proofs.Orders.{lawful_by, numbers_lawful, pairs_lawful}
+use Rattle.order.proofs.Orders.{lawful_by, numbers_lawful, pairs_lawful, ties, total_order}
+use Rattle.std.specs.Prelude.{Decides, ◌&&◌, ◌==◌}
+use Rattle.std.specs.Str.{bytes_eq}
+use Rattle.std.specs.Ordering.{is_eq, as_partial_cmp}
+use Rattle.std.specs.Cmp.{IsTotalOrder, IsPartialOrder, partial_order_from_total, partial_order_from_own_ties}
+use Rattle.std.proofs.lemmas.Bool.Decides.{Decides-and, Decides-eqb, Decides-like}
+use Rattle.std.proofs.lemmas.Slice.Eq.{bytes_eq-Decides}
 use Rattle.std.proofs.lemmas.List.{take_all}
 use Rattle.keys.specs.Text.{Bytes, padded}
 use Rattle.keys.specs.Rows.{row_text, RowOf, compare_rows}
@@ -34,3 +40,21 @@ row_of_unique t a b p q = same_row a b (p.bytes ∙ sym q.bytes) (p.long ∙ sym
 -- a row too long for a key has a text too long for one
 pub long_row_text : (w : Row) → length w.bytes ≡ 121 → 120 < w.len → 120 < length (row_text w)
 long_row_text w n l = simp length-take (omega arith)
+
+-- `==` of rows holds exactly where they compare equal
+pub rows_tie : (a b : Row) → (bytes_eq a.bytes b.bytes && (a.len == b.len)) ≡ is_eq (compare_rows a b)
+rows_tie = ties rows_lawful (λ (x y : Row). bytes_eq x.bytes y.bytes && (x.len == y.len)) (λ a b. decided a b)
+  where
+    decided : (a b : Row) → Decides (bytes_eq a.bytes b.bytes && (a.len == b.len)) (a ≡ b)
+    decided a b =
+        Decides-like
+        (bytes_eq a.bytes b.bytes && (a.len == b.len))
+        (λ h. same_row a b h.0 h.1)
+        (λ e. (ap (λ (w : Row). w.bytes) e, ap (λ (w : Row). w.len) e))
+        (Decides-and (bytes_eq a.bytes b.bytes) (a.len == b.len) (bytes_eq-Decides a.bytes b.bytes) (Decides-eqb a.len b.len))
+
+pub rows_total : IsTotalOrder compare_rows
+rows_total = total_order rows_lawful
+
+pub rows_partial : IsPartialOrder (λ (a b : Row). bytes_eq a.bytes b.bytes && (a.len == b.len)) (as_partial_cmp compare_rows)
+rows_partial = partial_order_from_own_ties (partial_order_from_total rows_total) rows_tie

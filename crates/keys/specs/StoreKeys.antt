@@ -1,5 +1,5 @@
 -- What a StoreKey means: its text, and what making one answers.
-use Rattle.std.specs.Prelude.{◌≡◌, ℕ, ◌<◌, ◌≤◌, length, take, Ok, Err, Result}
+use Rattle.std.specs.Prelude.{◌≡◌, ℕ, ◌<◌, ◌≤◌, length, Ok, Err, Result}
 use Rattle.keys.specs.Text.{Bytes, KeyText}
 use Rattle.keys.specs.declared.store_key.StoreKey.{StoreKey}
 use Rattle.keys.specs.declared.store_key.StoreKeyError.{StoreKeyError}
@@ -7,7 +7,7 @@ use Rattle.keys.specs.declared.store_key.StoreKeyError.TheVariants.{TooLong, Inv
 
 -- the text of a key
 abbrev pub text : StoreKey → Bytes
-text k = take k.len k.bytes
+text k = k.text
 
 -- the number of a refusal
 abbrev pub key_fault : StoreKeyError → ℕ

@@ -1,5 +1,5 @@
 -- What a StorePrefix means: its text, and what making one, and its parent, answer.
-use Rattle.std.specs.Prelude.{◌≡◌, ℕ, ◌<◌, ◌≤◌, [], ◌∷◌, ◌++◌, length, take, Some, None, Ok, Err, Option, Result}
+use Rattle.std.specs.Prelude.{◌≡◌, ℕ, ◌<◌, ◌≤◌, [], ◌∷◌, ◌++◌, length, Some, None, Ok, Err, Option, Result}
 use Rattle.keys.specs.Text.{Bytes, slash, PrefixText, Parent}
 use Rattle.keys.specs.declared.store_prefix.StorePrefix.{StorePrefix}
 use Rattle.keys.specs.declared.store_prefix.StorePrefixError.{StorePrefixError}
@@ -7,7 +7,7 @@ use Rattle.keys.specs.declared.store_prefix.StorePrefixError.TheVariants.{TooLon
 
 -- the text of a prefix
 abbrev pub prefix_text : StorePrefix → Bytes
-prefix_text p = take p.len p.bytes
+prefix_text p = p.text
 
 -- the number of a refusal
 abbrev pub prefix_fault : StorePrefixError → ℕ

@@ -3,7 +3,7 @@ use Rattle.std.specs.Prelude.{◌≡◌, ℕ, ◌+◌, ◌-◌, ◌<◌, ◌≤�
 use Rattle.std.proofs.Common.{sym, ap, subst, ◌∙◌, append_assoc, arith, length-append, inl, inr}
 use mathlib.Core.HLevel.{¬_prop, ×_prop, ×₃_prop, Π_prop, →_prop}
 use Rattle.std.proofs.Math.Nat.{ℕ_set}
-use Rattle.std.proofs.lemmas.List.{take-append-drop, drop_more, drop_all, get_or_at, get_or-append-add, get_or_append_left, get_or-append_right, nil_from_length, take_at, take-append-le, length_push, same_from_push}
+use Rattle.std.proofs.lemmas.List.{take-append-drop, drop_more, drop_all, get_or_at, get_or-append-add, get_or_append_left, get_or-append_right, nil_from_length, take_at, drop_at, take-append-le, length_push, same_from_push}
 use Rattle.std.proofs.lemmas.Bool.{cases_eq, cases_lt}
 use Rattle.std.proofs.lemmas.Bool.Decides.{Decides-like}
 use Rattle.keys.specs.Text.{Bytes, slash, Begins, BeginsSlash, EndsSlash, DoubleSlash, FinalSlash, SlashFree, KeyText, PrefixText, shortened}
@@ -146,6 +146,15 @@ begins_decides t p r =
     r
     (λ e. (drop (length p) t, sym (take-append-drop (length p) t) ∙ ap (λ z. z ++ drop (length p) t) (sym e)))
     (λ h. sym (ap (λ z. take (length p) z) h.1 ∙ take_at p h.0 (length p) refl))
+
+pub ends_decides : (t : Bytes) (r : Bool) → Decides r (slash ∷ [] ≡ drop (length t - 1) t) → Decides r (EndsSlash t)
+ends_decides t r =
+    Decides-like
+    r
+    (λ e. (shortened t, sym (take-append-drop (length t - 1) t) ∙ ap (λ z. shortened t ++ z) (sym e)))
+    (λ h.
+    let n : length t - 1 ≡ length h.0 = let m : length t ≡ length h.0 + 1 = ap length h.1 ∙ length_push h.0 slash in omega arith in
+    sym (ap (λ k. drop k t) n ∙ ap (λ z. drop (length h.0) z) h.1 ∙ drop_at h.0 (slash ∷ []) (length h.0) refl))
 
 -- the empty text keeps both rules
 pub key_text_or_nil : (t : Bytes) → (0 < length t → KeyText t) → KeyText t

@@ -3,6 +3,7 @@
 
 mod buffer;
 pub mod row;
+pub mod short_text;
 pub mod store_key;
 pub mod store_prefix;
 mod text;

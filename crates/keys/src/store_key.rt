@@ -1,5 +1,7 @@
-ghost use Rattle.std.specs.Prelude.{◌≡◌, ◌-◌, ◌≤◌, length, take, drop, replicate};
+ghost use Rattle.std.specs.Prelude.{◌≤◌, length};
 ghost use Rattle.keys.specs.Text.{KeyText};
+
+use crate::short_text::ShortText;
 
 mod methods;
 pub mod orders;
@@ -8,17 +10,12 @@ mod prefixes;
 /// The most bytes that a key has.
 pub const MAX_KEY_LEN: usize = 120;
 
-/// A Zarr abstract store key: at most 120 bytes that keep the rule `KeyText`.
-///
-/// The text is the first `len` bytes; the bytes behind it are zeros, so that keys are equal exactly if their texts are.
-#[derive(Clone, Copy)]
+/// A Zarr abstract store key: at most 120 bytes that keep the rule `KeyText`. Keys are in the order of their texts.
+#[derive(Clone, Copy, PartialEq, Eq, PartialOrd, Ord)]
 pub struct StoreKey {
-    bytes: [u8; 120],
-    len: usize,
-    ghost within: { len ≤ 120 },
-    ghost whole: { length bytes ≡ 120 },
-    ghost padded: { drop len bytes ≡ replicate (120 - len) 0 },
-    ghost rule: { KeyText (take len bytes) },
+    text: ShortText<120>,
+    ghost within: { length text ≤ 120 },
+    ghost rule: { KeyText text },
 }
 
 /// Why bytes are no key.

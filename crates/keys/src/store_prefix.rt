@@ -1,5 +1,7 @@
-ghost use Rattle.std.specs.Prelude.{◌≡◌, ◌-◌, ◌≤◌, length, take, drop, replicate};
+ghost use Rattle.std.specs.Prelude.{◌≤◌, length};
 ghost use Rattle.keys.specs.Text.{PrefixText};
+
+use crate::short_text::ShortText;
 
 mod methods;
 pub mod orders;
@@ -7,17 +9,12 @@ pub mod orders;
 /// The most bytes that a prefix has.
 pub const MAX_PREFIX_LEN: usize = 121;
 
-/// A Zarr abstract store prefix: at most 121 bytes that keep the rule `PrefixText`.
-///
-/// The text is the first `len` bytes; the bytes behind it are zeros, so that prefixes are equal exactly if their texts are.
-#[derive(Clone, Copy)]
+/// A Zarr abstract store prefix: at most 121 bytes that keep the rule `PrefixText`. Prefixes are in the order of their texts.
+#[derive(Clone, Copy, PartialEq, Eq, PartialOrd, Ord)]
 pub struct StorePrefix {
-    bytes: [u8; 121],
-    len: usize,
-    ghost within: { len ≤ 121 },
-    ghost whole: { length bytes ≡ 121 },
-    ghost padded: { drop len bytes ≡ replicate (121 - len) 0 },
-    ghost rule: { PrefixText (take len bytes) },
+    text: ShortText<121>,
+    ghost within: { length text ≤ 121 },
+    ghost rule: { PrefixText text },
 }
 
 /// Why bytes are no prefix.

@@ -1,29 +1,26 @@
 //! The rules of texts, and where slashes stand in them.
-ghost use Rattle.std.specs.Prelude.{◌≡◌, ◌≤◌, true, length, take, Decides};
+ghost use Rattle.std.specs.Prelude.{Decides};
 ghost use Rattle.keys.specs.Text.{Begins, BeginsSlash, EndsSlash, FinalSlash, DoubleSlash, KeyText, PrefixText, Parent};
-ghost use Rattle.keys.specs.ByteOrder.{compare_bytes};
-
-use std::cmp::Ordering;
 
 /// True if the first byte is a slash.
 pub(crate) fn begins_with_slash(text: &[u8]) -> bool
     ensures { Decides result (BeginsSlash text.now) }
 {
-    text.len() > 0 && text[0] == b'/'
+    begins_with(text, b"/")
 }
 
 /// True if the last byte is a slash.
 pub(crate) fn ends_with_slash(text: &[u8]) -> bool
     ensures { Decides result (EndsSlash text.now) }
 {
-    text.len() > 0 && text[text.len() - 1] == b'/'
+    text.ends_with(b"/")
 }
 
 /// True if the last byte, if there is any, is a slash.
 pub(crate) fn final_is_slash(text: &[u8]) -> bool
     ensures { Decides result (FinalSlash text.now) }
 {
-    text.len() == 0 || ends_with_slash(text)
+    text.is_empty() || ends_with_slash(text)
 }
 
 /// True if `text` begins with `front`.
@@ -37,8 +34,8 @@ pub(crate) fn begins_with(text: &[u8], front: &[u8]) -> bool
 pub(crate) fn has_double_slash(text: &[u8]) -> bool
     ensures { Decides result (DoubleSlash text.now) }
 {
-    for i in 1..text.len() {
-        if text[i - 1] == b'/' && text[i] == b'/' {
+    for pair in text.windows(2) {
+        if pair[0] == b'/' && pair[1] == b'/' {
             return true;
         }
     }
@@ -59,30 +56,12 @@ pub(crate) fn keeps_prefix_rule(text: &[u8]) -> bool
     !begins_with_slash(text) && final_is_slash(text)
 }
 
-/// How two texts stand to one another.
-pub(crate) fn compare_bytes(a: &[u8], b: &[u8]) -> Ordering
-    ensures { result ≡ compare_bytes a.now b.now }
+/// A text through its last slash; no bytes where it has none.
+pub(crate) fn parent_text(text: &[u8]) -> &[u8]
+    ensures { Parent text.now result.now }
 {
-    a.cmp(&b)
-}
-
-/// True if two texts are the same.
-pub(crate) fn same_bytes(a: &[u8], b: &[u8]) -> bool
-    ensures { Decides result (a.now ≡ b.now) }
-{
-    a == b
-}
-
-/// How many bytes a text has through its last slash; 0 where it has none.
-pub(crate) fn parent_len(text: &[u8]) -> usize
-    ensures { (result ≤ length text.now) × Parent text.now (take result text.now) }
-{
-    let mut i = text.len();
-    while i > 0 {
-        if text[i - 1] == b'/' {
-            return i;
-        }
-        i -= 1;
+    match text.iter().rposition(|b| *b == b'/') {
+        Some(i) => &text[..i + 1],
+        None => &text[..0],
     }
-    0
 }

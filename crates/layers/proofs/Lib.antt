@@ -1,1 +1,2 @@
 mod OffsetWrites
+mod Writes

@@ -5,7 +5,7 @@ ghost use Rattle.keys.specs.StoreKeys.{text};
 ghost use Rattle.keys.specs.StorePrefixes.{prefix_text};
 ghost use Rattle.storage.specs.Writes.{set, erase, erase_prefix, rename};
 ghost use Rattle.layers.specs.Countdown.{counted, Powered, Counts};
-ghost use Rattle.layers.specs.Lowering.{Lowered, WroteThrough, WroteAtThrough};
+ghost use Rattle.layers.specs.Lowering.{Lowered, WroteThrough, WroteAtThrough, Written};
 ghost use Rattle.layers.specs.Counts.{refuses};
 ghost use Rattle.std.proofs.Common.{rules};
 
@@ -45,12 +45,7 @@ impl<S> Countdown<S> {
     pub fn into_inner(self) -> S
         ensures { result ≡ self.storage }
     {
-        let Countdown {
-            storage,
-            left: _,
-            again: _,
-        } = self;
-        storage
+        self.storage
     }
 
     /// Does the device take a write?
@@ -63,19 +58,25 @@ impl<S> Countdown<S> {
         Ok(())
     }
 
+    /// A write through the layer: where one is left, the store below is asked.
+    fn written<F: FnOnce(&mut S) -> Result<(), Fault>>(&mut self, write: F) -> Result<(), Fault>
+        requires { F.IsAlwaysCallable write }
+        ensures { Written F.FnOnce write result self.old self.new }
+    {
+        self.has_power()?;
+        let answer = write(&mut self.storage);
+        self.count(answer)
+    }
+
     /// Counts a write that the store below took, and passes a refusal up.
     fn count(&mut self, answer: Result<(), Fault>) -> Result<(), Fault>
         requires { 0 < self.old.left }
         ensures below { (self.new.storage ≡ self.old.storage) × (self.new.again ≡ self.old.again) }
         ensures counts { Counts self.old.left self.new.left answer result }
     {
-        match answer {
-            Ok(()) => {
-                self.left -= 1;
-                Ok(())
-            }
-            Err(f) => Err(f.raised()),
-        }
+        answer.map_err(Fault::raised)?;
+        self.left -= 1;
+        Ok(())
     }
 }
 
@@ -105,10 +106,9 @@ impl<S: ReadableStorageTraits> ReadableStorageTraits for Countdown<S> {
         out: &mut [u8],
         notes: &mut [Note],
     ) -> Result<Option<usize>, Fault> {
-        match self.storage.get_partial_many(key, ranges, out, notes) {
-            Ok(n) => Ok(n),
-            Err(f) => Err(f.raised()),
-        }
+        self.storage
+            .get_partial_many(key, ranges, out, notes)
+            .map_err(Fault::raised)
     }
 
     fn supports_get_partial(&self) -> bool {
@@ -127,9 +127,7 @@ impl<S: WritableStorageTraits> WritableStorageTraits for Countdown<S> {
         ensures wrote { WroteThrough S.ReadableStorageTraits (set (text key.now) value.now) result self.old self.new }
         ensures counts { Lowered result self.old self.new }
     {
-        self.has_power()?;
-        let answer = self.storage.set(key, value);
-        self.count(answer)
+        self.written(|storage| storage.set(key, value))
     }
 
     fn set_partial_many(
@@ -144,6 +142,7 @@ impl<S: WritableStorageTraits> WritableStorageTraits for Countdown<S> {
     {
         let in_place = self.storage.supports_set_partial();
         begin_offset_write(&self.storage, in_place, key, patches, source, work)?;
+        // not by `written`: what a closure leaves in a buffer that it captures is not known after the call
         self.has_power()?;
         let answer = self.storage.set_partial_many(key, patches, source, work);
         self.count(answer)
@@ -157,18 +156,14 @@ impl<S: WritableStorageTraits> WritableStorageTraits for Countdown<S> {
         ensures wrote { WroteThrough S.ReadableStorageTraits (erase (text key.now)) result self.old self.new }
         ensures counts { Lowered result self.old self.new }
     {
-        self.has_power()?;
-        let answer = self.storage.erase(key);
-        self.count(answer)
+        self.written(|storage| storage.erase(key))
     }
 
     fn erase_prefix(&mut self, prefix: &StorePrefix) -> Result<(), Fault>
         ensures wrote { WroteThrough S.ReadableStorageTraits (erase_prefix (prefix_text prefix.now)) result self.old self.new }
         ensures counts { Lowered result self.old self.new }
     {
-        self.has_power()?;
-        let answer = self.storage.erase_prefix(prefix);
-        self.count(answer)
+        self.written(|storage| storage.erase_prefix(prefix))
     }
 
     fn power_on(&mut self)
@@ -185,8 +180,6 @@ impl<S: AtomicRenameStorageTraits> AtomicRenameStorageTraits for Countdown<S> {
         ensures wrote { WroteThrough S.ReadableStorageTraits (rename (text source.now) (text destination.now)) result self.old self.new }
         ensures counts { Lowered result self.old self.new }
     {
-        self.has_power()?;
-        let answer = self.storage.rename(source, destination);
-        self.count(answer)
+        self.written(|storage| storage.rename(source, destination))
     }
 }

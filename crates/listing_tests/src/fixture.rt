@@ -9,17 +9,11 @@ use storage::fault::Fault;
 use storage::storage_sync::writes::WritableStorageTraits;
 
 pub(crate) fn key(text: &[u8]) -> StoreKey {
-    match StoreKey::new(text) {
-        Ok(key) => key,
-        Err(_) => StoreKey::root(),
-    }
+    StoreKey::new(text).unwrap_or(StoreKey::root())
 }
 
 pub(crate) fn prefix(text: &[u8]) -> StorePrefix {
-    match StorePrefix::new(text) {
-        Ok(prefix) => prefix,
-        Err(_) => StorePrefix::root(),
-    }
+    StorePrefix::new(text).unwrap_or(StorePrefix::root())
 }
 
 /// Stores a value of three bytes.
@@ -27,20 +21,18 @@ pub(crate) fn put(store: &mut MemoryStore, text: &[u8]) {
     let _ = store.set(&key(text), b"xyz");
 }
 
-/// How many rows were listed, or 1000 more than the number of the refusal; its depth.
-pub(crate) fn told(r: Result<usize, Fault>) -> (usize, u16) {
-    match r {
-        Ok(n) => (n, 0),
-        Err(f) => (1000 + f.cause.number() as usize, f.depth),
-    }
+/// How many rows were listed, or the number and the depth of the refusal.
+pub(crate) fn told(r: Result<usize, Fault>) -> Result<usize, (u8, u16)> {
+    r.map_err(number)
 }
 
 /// The same of keys and prefixes.
-pub(crate) fn told_both(r: Result<StoreKeysPrefixes, Fault>) -> (usize, usize) {
-    match r {
-        Ok(found) => (found.keys, found.prefixes),
-        Err(f) => (1000 + f.cause.number() as usize, f.depth as usize),
-    }
+pub(crate) fn told_both(r: Result<StoreKeysPrefixes, Fault>) -> Result<(usize, usize), (u8, u16)> {
+    r.map(|found| (found.keys, found.prefixes)).map_err(number)
+}
+
+fn number(f: Fault) -> (u8, u16) {
+    (f.cause.number(), f.depth)
 }
 
 /// True if a row holds the text.

@@ -1,13 +1,19 @@
 -- What a key has behind a prefix: a component and a slash, or no slash.
-use Rattle.std.proofs.Common.{◌≡◌, ℕ, ◌+◌, ◌-◌, ◌<◌, ◌≤◌, ◌⊎◌, [], ◌∷◌, ◌++◌, length, get_or, take, drop, Some, None, Option, Result, Ordering, Less, Equal, Greater, sym, refl, ap, ◌∙◌, subst, inl, inr, ⊎_elim, true≢false, append_assoc, arith, length-append}
+use Rattle.std.proofs.Common.{◌≡◌, ℕ, Bool, true, false, not, Decides, ◌+◌, ◌<◌, ◌≤◌, ◌⊎◌, [], ◌∷◌, ◌++◌, length, get_or, take, drop, Some, None, Option, Result, Ordering, Less, Equal, Greater, sym, refl, ap, ◌∙◌, subst, inl, inr, ⊎_elim, true≢false, append_assoc, arith, length-append}
 use Rattle.std.specs.Cmp.Lexicographic.{slice_cmp}
 use Rattle.std.specs.Ordering.{ordering_then, is_lt, nat_cmp}
 use Rattle.order.proofs.Orders.{numbers_lawful}
 use Rattle.keys.specs.ByteOrder.{compare_bytes}
 use Rattle.keys.specs.ByteOrderLemmas.{compare_front}
-use Rattle.std.proofs.lemmas.List.{append_cancel_left, take-append-drop, take_at, get_or_at, get_or-append-add, get_or_append_left, get_or-take, drop_more, length-take-le, nil_from_length}
-use Rattle.std.proofs.lemmas.Bool.{cases_eq, cases_lt}
+use Rattle.std.proofs.lemmas.List.{append_cancel_left, take-append-drop, take_at, get_or_at, get_or-take, length-take-le, nil_from_length}
+use Rattle.std.proofs.lemmas.Bool.{cases_lt}
 use Rattle.std.specs.Result.{result_ok}
+use Rattle.std.specs.Option.{is_some, IfSome}
+use Rattle.std.specs.Cmp.Lexicographic.{pointwise}
+use Rattle.std.specs.Prelude.{nat_eq}
+use Rattle.std.proofs.lemmas.Bool.Decides.{Decides-eqb}
+use Rattle.std.proofs.lemmas.Slice.Eq.{slice_eq-Decides}
+use Rattle.storage.proofs.Order.{clash}
 use Rattle.keys.specs.Rows.{RowOf}
 use Rattle.keys.specs.StorePrefixes.{prefix_text, MadePrefix, ParentIs}
 use Rattle.keys.specs.Text.{Bytes, slash, Begins, BeginsSlash, SlashFree, FinalSlash, Parent, KeyText, PrefixText}
@@ -16,10 +22,10 @@ use Rattle.keys.specs.declared.store_prefix.StorePrefix.{StorePrefix}
 use Rattle.keys.specs.declared.store_prefix.StorePrefixError.{StorePrefixError}
 use Rattle.keys.specs.RowsLemmas.{same_row}
 use Rattle.keys.specs.StorePrefixesLemmas.{prefix_accepted}
-use Rattle.keys.specs.Texts.{cut_at, begins_front, ends_at, ends_from, ends_from_final, final_from_ends, final_nil, free_from, not_beginning, not_double, prefix_text_lem}
+use Rattle.keys.specs.Texts.{cut_at, begins_front, ends_from_final, final_from_ends, free_from, not_beginning, not_double, prefix_text_lem}
 use Rattle.listings.specs.Listings.{Beneath, Extends, Reserved, row_for}
-use Rattle.listings.specs.Picks.{Picks, FirstSlash, ChildOf}
-use Rattle.listings.specs.declared.pick.Selection.TheVariants.{DirectKeys}
+use Rattle.listings.specs.Picks.{Picks, ChildOf}
+use Rattle.listings.specs.declared.pick.Selection.TheVariants.{DirectKeys, Children}
 
 pub row_for_lem : (t : Bytes) (w : Row) → RowOf t w → w ≡ row_for t
 row_for_lem t w h = same_row w (row_for t) h.bytes h.long
@@ -39,49 +45,9 @@ pub direct_no : (p k : Bytes) (q : StorePrefix) → FinalSlash p → ParentIs k 
 unfolding ParentIs
 direct_no p k q f h n t d = n (sym (h.1 p (parent_from_beneath p k f d.1)))
 
--- two underscores stand at k, which begins a component
-abbrev pub ReservedAt : Bytes → ℕ → Type 0
-ReservedAt t k = (get_or t k 0 ≡ 95) × (get_or t (k + 1) 0 ≡ 95) × (0 < k → get_or t (k - 1) 0 ≡ slash)
-
-pub reserved_from : (t : Bytes) (k : ℕ) → k + 1 < length t → ReservedAt t k → Reserved t
-reserved_from t k l (a, b, before) = (
-  take k t,
-  drop (k + 1 + 1) t,
-  cut_at t k (omega arith) ∙ ap (λ z. take k t ++ (get_or t k 0 ∷ z)) (drop_more t (k + 1) 0 l) ∙ ap (λ x. take k t ++ (x ∷ get_or t (k + 1) 0 ∷ drop (k + 1 + 1) t)) a ∙ ap (λ x. take k t ++ (95 ∷ x ∷ drop (k + 1 + 1) t)) b,
-  elim (cases_lt 0 k) [
-    | inl h ↦ let n : length (take k t) ≡ k = length-take-le k t (omega arith) in final_from_ends (take k t) (ends_from (take k t) (omega arith) (ap (λ j. get_or (take k t) (j - 1) 0) n ∙ get_or-take k t (k - 1) 0 (omega arith) ∙ before h))
-    | inr h ↦ subst FinalSlash (sym (nil_from_length (take k t) (omega (arith, length-take-le k t (omega arith))))) final_nil
-  ],
-)
-
-pub reserved_at : (t : Bytes) → Reserved t → (k : ℕ) × (k + 1 < length t) × ReservedAt t k
-reserved_at t (u, v, e, f) =
-    let n : length t ≡ length u + (2 + length v) = ap length e ∙ simp length-append (omega arith) in (
-      length u,
-      omega arith,
-      (
-        ap (λ z. get_or z (length u) 0) e ∙ get_or_at u 95 (95 ∷ v) 0 (length u) refl,
-        ap (λ z. get_or z (length u + 1) 0) e ∙ get_or-append-add u (95 ∷ 95 ∷ v) 1 0,
-        λ h. let s = (ends_at u (ends_from_final u h f)).1 in ap (λ z. get_or z (length u - 1) 0) (e) ∙ front_read u (95 ∷ 95 ∷ v) (length u - 1) (omega arith) ∙ s,
-      ),
-    )
-  where
-    front_read : (u v : Bytes) (j : ℕ) → j < length u → get_or (u ++ v) j 0 ≡ get_or u j 0
-    front_read u v j h = get_or_append_left u v 0 j h
-
-pub reserved_yes : (t : Bytes) (i : ℕ) → 1 ≤ i → i < length t → get_or t (i - 1) 0 ≡ 95 → get_or t i 0 ≡ 95 → (0 < i - 1 → get_or t (i - 1 - 1) 0 ≡ slash) → Reserved t
-reserved_yes t i l h a b before =
-    let e : i - 1 + 1 ≡ i = omega arith in
-    reserved_from t (i - 1) (omega arith) (a, ap (λ j. get_or t j 0) e ∙ b, before)
-
-pub reserved_more : (t : Bytes) (i : ℕ) → ((k : ℕ) → k + 1 < i → ReservedAt t k → ⊥) → (get_or t (i - 1) 0 ≡ 95 → get_or t i 0 ≡ 95 → (0 < i - 1 → get_or t (i - 1 - 1) 0 ≡ slash) → ⊥) → (k : ℕ) → k + 1 < i + 1 → ReservedAt t k → ⊥
-reserved_more t i none here k l (a, b, before) =
-    elim (cases_eq (k + 1) i) [
-      | inl e ↦
-          let f : i - 1 ≡ k = omega arith in
-          here (ap (λ j. get_or t j 0) f ∙ a) (ap (λ j. get_or t j 0) (sym e) ∙ b) (λ h. ap (λ j. get_or t (j - 1) 0) f ∙ before (omega arith))
-      | inr n ↦ none k (omega arith) (a, b, before)
-    ]
+pub direct_then : (p k : Bytes) (q : StorePrefix) (b : Bool) (r : Option Row) → FinalSlash p → ParentIs k q → Decides b (prefix_text q ≡ p) → is_some r ≡ b → IfSome r (RowOf k) → Picks DirectKeys p k r
+direct_then p k q b None f h d v s = direct_no p k q f h (λ e. clash b (d.1 e) (sym v))
+direct_then p k q b (Some w) f h d v s = direct_yes p k q w h (d.0 (sym v)) s
 
 -- no slash behind a prefix that ends with one, or is empty, begins the rest of a key
 no_first_slash : (p r : Bytes) → KeyText (p ++ (slash ∷ r)) → FinalSlash p → ⊥
@@ -108,14 +74,13 @@ key_from_extends p k t (s, e, l, f, b) =
     let (r, g) = b in
     g ∙ ap (λ z. z ++ r) e ∙ extends_parts p s r
 
-pub child_none : (p k : Bytes) → FirstSlash k (length p) None → (t : Bytes) → Extends p k t → ⊥
-child_none p k none t x =
+pub child_none : (p k rest : Bytes) → k ≡ p ++ rest → ((j : ℕ) → j < length rest → get_or rest j 0 ≡ slash → ⊥) → (t : Bytes) → Extends p k t → ⊥
+child_none p k rest e none t x =
     let s : Bytes = x.0 in
     let r : Bytes = x.4.0 in
-    let e : k ≡ p ++ (s ++ (slash ∷ r)) = key_from_extends p k t x in
-    let n : length k ≡ length p + (length s + (1 + length r)) = ap length e ∙ simp length-append (omega arith) in
-    none (length p + length s) (omega arith) (omega arith)
-    (ap (λ z. get_or z (length p + length s) 0) e ∙ get_or-append-add p (s ++ (slash ∷ r)) (length s) 0 ∙ get_or_at s slash r 0 (length s) refl)
+    let q : rest ≡ s ++ (slash ∷ r) = append_cancel_left p rest (s ++ (slash ∷ r)) (sym e ∙ key_from_extends p k t x) in
+    let n : length rest ≡ length s + (1 + length r) = ap length q ∙ simp length-append (omega arith) in
+    none (length s) (omega arith) (ap (λ z. get_or z (length s) 0) q ∙ get_or_at s slash r 0 (length s) refl)
 
 -- a child prefix keeps the rule of prefixes
 pub child_rule : (p k t : Bytes) → KeyText k → Extends p k t → PrefixText t
@@ -131,47 +96,46 @@ child_short p k t (s, e, l, f, b) =
     let (r, g) = b in
     omega (arith, ap length g ∙ length-append t r)
 
+-- what is behind a prefix that a key begins with
+pub stripped : (a b p q rest : Bytes) → a ≡ b → p ≡ q → pointwise nat_eq (take (length p) a) p ≡ true → rest ≡ drop (length p) a → b ≡ q ++ rest
+stripped a b p q rest e f h behind =
+    sym e
+    ∙ sym (take-append-drop (length p) a)
+    ∙ ap (λ z. z ++ drop (length p) a) ((slice_eq-Decides Decides-eqb (take (length p) a) p true (sym h)).0 refl ∙ f)
+    ∙ ap (λ z. q ++ z) (sym behind)
+
+pub not_stripped : (a b p q : Bytes) → a ≡ b → p ≡ q → pointwise nat_eq (take (length p) a) p ≡ false → (t : Bytes) → Extends q b t → ⊥
+not_stripped a b p q e f h t x =
+    let (rest, g) = begins_from_extends q b t x in
+    let whole : a ≡ p ++ rest = e ∙ g ∙ ap (λ z. z ++ rest) (sym f) in
+    true≢false (sym ((slice_eq-Decides Decides-eqb (take (length p) a) p false (sym h)).1 (ap (take (length p)) whole ∙ take_at p rest (length p) refl)))
+
 -- a key cut behind the first slash after a prefix
-module _ (p k : Bytes) (key : KeyText k) (f : FinalSlash p) (b : Begins k p) (i : ℕ) (at : FirstSlash k (length p) (Some i)) where
-  abbrev rest : Bytes
-  rest = b.0
-
-  abbrev m : ℕ
-  m = i - length p
-
-  long : length k ≡ length p + length rest
-  long = ap length b.1 ∙ length-append p rest
-
-  here : (j : ℕ) → get_or rest j 0 ≡ get_or k (length p + j) 0
-  here j = sym (ap (λ z. get_or z (length p + j) 0) b.1 ∙ get_or-append-add p rest j 0)
-
-  pub child_found : Extends p k (take (i + 1) k)
+module _ (p k rest : Bytes) (key : KeyText k) (f : FinalSlash p) (e : k ≡ p ++ rest) (m : ℕ) (inside : m < length rest) (is : get_or rest m 0 ≡ slash) (free : (j : ℕ) → j < m → get_or rest j 0 ≡ slash → ⊥) where
+  pub child_found : Extends p k (take (length p + m + 1) k)
   child_found =
-      let n = long in
-      let in' : m < length rest = omega (arith, at.0, at.1) in
       let s : Bytes = take m rest in
       let size : length s ≡ m = length-take-le m rest (omega arith) in
-      let back : length p + m ≡ i = omega (arith, at.0) in
-      let cut : rest ≡ s ++ (slash ∷ drop (m + 1) rest) = cut_at rest m in' ∙ ap (λ x. s ++ (x ∷ drop (m + 1) rest)) (here m ∙ ap (λ j. get_or k j 0) back ∙ at.2) in
-      let whole : k ≡ (p ++ (s ++ (slash ∷ []))) ++ drop (m + 1) rest = b.1 ∙ ap (λ z. p ++ z) cut ∙ sym (extends_parts p s (drop (m + 1) rest)) in
-      let front : length (p ++ (s ++ (slash ∷ []))) ≡ i + 1 = simp length-append (omega arith) in (
+      let cut : rest ≡ s ++ (slash ∷ drop (m + 1) rest) = cut_at rest m inside ∙ ap (λ x. s ++ (x ∷ drop (m + 1) rest)) is in
+      let whole : k ≡ (p ++ (s ++ (slash ∷ []))) ++ drop (m + 1) rest = e ∙ ap (λ z. p ++ z) cut ∙ sym (extends_parts p s (drop (m + 1) rest)) in
+      let front : length (p ++ (s ++ (slash ∷ []))) ≡ length p + m + 1 = simp length-append (omega arith) in (
         s,
-        ap (λ z. take (i + 1) z) whole ∙ take_at (p ++ (s ++ (slash ∷ []))) (drop (m + 1) rest) (i + 1) front,
+        ap (λ z. take (length p + m + 1) z) whole ∙ take_at (p ++ (s ++ (slash ∷ []))) (drop (m + 1) rest) (length p + m + 1) front,
         elim (cases_lt 0 m) [
           | inl h ↦ omega arith
           | inr h ↦
               let none : s ≡ [] = nil_from_length s (omega arith) in
-              absurd (no_first_slash p (drop (m + 1) rest) (subst KeyText (b.1 ∙ ap (λ z. p ++ z) (cut ∙ ap (λ z. z ++ (slash ∷ drop (m + 1) rest)) none)) key) f)
+              absurd (no_first_slash p (drop (m + 1) rest) (subst KeyText (e ∙ ap (λ z. p ++ z) (cut ∙ ap (λ z. z ++ (slash ∷ drop (m + 1) rest)) none)) key) f)
         ],
-        free_from s (λ j l e. at.3 (length p + j) (omega arith) (omega arith) (sym (here j) ∙ sym (get_or-take m rest j 0 (omega arith)) ∙ e)),
-        (drop (i + 1) k, sym (take-append-drop (i + 1) k)),
+        free_from s (λ j l h. free j (omega arith) (sym (get_or-take m rest j 0 (omega arith)) ∙ h)),
+        (drop (length p + m + 1) k, sym (take-append-drop (length p + m + 1) k)),
       )
 
-  pub child_made : (r : Result StorePrefix StorePrefixError) (o : Option StorePrefix) → length k ≤ 120 → MadePrefix (take (i + 1) k) r → o ≡ result_ok r → ChildOf p k o
-  child_made r o l made e =
+  pub child_made : (r : Result StorePrefix StorePrefixError) (o : Option StorePrefix) → length k ≤ 120 → MadePrefix (take (length p + m + 1) k) r → o ≡ result_ok r → ChildOf p k o
+  child_made r o l made h =
       let x = child_found in
-      let (q, is, t) = prefix_accepted (take (i + 1) k) r made (omega (arith, child_short p k (take (i + 1) k) x)) (child_rule p k (take (i + 1) k) key x) in
-      rw (e, is) (subst (Extends p k) (sym t) x)
+      let (q, is, t) = prefix_accepted (take (length p + m + 1) k) r made (omega (arith, child_short p k (take (length p + m + 1) k) x)) (child_rule p k (take (length p + m + 1) k) key x) in
+      rw (h, is) (subst (Extends p k) (sym t) x)
 
 -- a text cut at its first slash has one front
 cut_unique : (a b x y : Bytes) → SlashFree a → SlashFree b → a ++ (slash ∷ x) ≡ b ++ (slash ∷ y) → a ≡ b
@@ -192,6 +156,13 @@ extends_unique p k t u x y =
     let e = sym (key_from_extends p k t x) ∙ key_from_extends p k u y in
     let q : x.0 ≡ y.0 = cut_unique x.0 y.0 x.4.0 y.4.0 x.3 y.3 (append_cancel_left p (x.0 ++ (slash ∷ x.4.0)) (y.0 ++ (slash ∷ y.4.0)) e) in
     x.1 ∙ ap (λ z. p ++ (z ++ (slash ∷ []))) q ∙ sym y.1
+
+-- the child prefix t, where it is not reserved
+pub child_then : (p k : Bytes) (q : StorePrefix) (t : Bytes) (b : Bool) (r : Option Row) → ChildOf p k (Some q) → t ≡ prefix_text q → Decides b (Reserved t) → is_some r ≡ not b → IfSome r (RowOf (prefix_text q)) → Picks Children p k r
+child_then p k q t true None x e d v s = λ u y. y.1 (subst Reserved (e ∙ extends_unique p k (prefix_text q) u x y.0) (d.0 refl))
+child_then p k q t false None x e d v s = absurd (true≢false (sym v))
+child_then p k q t true (Some w) x e d v s = absurd (true≢false v)
+child_then p k q t false (Some w) x e d v s = (prefix_text q, (x, λ h. clash false (d.1 (subst Reserved (sym e) h)) refl), row_for_lem (prefix_text q) w s)
 
 -- texts cut at their first slash: the fronts are one, or stand in the order of the texts
 pub cut_order : (a b x y : Bytes) → SlashFree a → SlashFree b → compare_bytes (a ++ (slash ∷ x)) (b ++ (slash ∷ y)) ≡ Less → (a ≡ b) ⊎ (compare_bytes (a ++ (slash ∷ [])) (b ++ (slash ∷ [])) ≡ Less)

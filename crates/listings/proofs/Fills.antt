@@ -23,7 +23,7 @@ use Rattle.storage.proofs.Order.{same_true, same_false}
 use Rattle.listings.specs.Listings.{Exactly, row_for}
 use Rattle.listings.specs.Picks.{Chosen, Picks, Gathered, Puts, Spacious, Filled}
 use Rattle.listings.specs.declared.pick.Selection.{Selection}
-use Rattle.listings.proofs.Gathers.{row_injective, exactly_unique, gather_none, gather_again, gather_new, no_key, next_keys, next_later}
+use Rattle.listings.proofs.Gathers.{row_injective, exactly_unique, gather_none, gather_again, gather_new, gather_nothing, no_key, next_keys, next_later}
 use Rattle.listings.proofs.SortedSets.{has_none, has_later, sorted_same, sorted_sub}
 
 -- texts and their rows
@@ -131,18 +131,22 @@ room_part s p ks n rows (us, y, l) ts x =
 
 module _ (s : Selection) (p : Bytes) (ks : List Bytes) (before : List Row) where
   pub fill-next :
-      (n : ℕ) (k : Bytes) (l m : ℕ) (rows after : List Row) (o : Option Row)
+      (n i : ℕ) (k : Bytes) (l m : ℕ) (rows after : List Row) (o : Option Row)
+      → i ≡ n + 1
       → ascending ks ≡ true
       → Some k ≡ slice_get ks n
       → Spacious (Gathered s p ks) before
       → Filling s p (take n ks) before l rows
       → Picks s p k o
       → Puts rows l o after m
-      → Filling s p (take (n + 1) ks) before m after
-  fill-next n k l m rows after o up there room f y q =
-      let e = next_keys ks n k up there in
+      → Filling s p (take i ks) before m after
+  fill-next n i k l m rows after o h up there room f y q =
+      let e : take n ks ++ (k ∷ []) ≡ take i ks = next_keys ks n k up there ∙ ap (λ j. take j ks) (sym h) in
       subst (λ z. Filling s p z before m after) e
-      (fill_more s p (take n ks) k (next_later ks n k up there) before rows after l m (λ ts x. room_part s p ks (n + 1) before room ts (subst (λ z. Exactly (Gathered s p z) ts) e x)) o f y q)
+      (fill_more s p (take n ks) k (next_later ks n k up there) before rows after l m (λ ts x. room_part s p ks i before room ts (subst (λ z. Exactly (Gathered s p z) ts) e x)) o f y q)
+
+  pub fill_none : (n l : ℕ) → n ≡ 0 → l ≡ 0 → Filling s p (take n ks) before l before
+  fill_none n l e f = subst (λ j. Filling s p (take j ks) before l before) (sym e) ([], gather_nothing s p, f, refl, omega arith)
 
   pub fill_all : (n l : ℕ) (rows : List Row) → None ≡ slice_get ks n → Filling s p (take n ks) before l rows → Filled (Gathered s p ks) before rows
   fill_all n l rows none (ts, x, _, is, _) us y =

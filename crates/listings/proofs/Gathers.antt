@@ -1,6 +1,7 @@
 -- What is gathered of more and more keys.
 use Rattle.std.proofs.Common.{◌≡◌, ℕ, ◌+◌, ◌-◌, ◌<◌, ◌≤◌, true, ◌⊎◌, List, [], ◌∷◌, ◌++◌, length, get_or, take, Some, None, Option, Ordering, Less, Equal, Greater, sym, refl, ap, ◌∙◌, subst, inl, inr, ⊎_elim, append-nil, arith}
 use Rattle.std.specs.List.{slice_get, ContainsAt as Has, AllByRecursion}
+use Rattle.std.specs.Option.{option_map}
 use Rattle.std.specs.Ordering.{is_lt}
 use Rattle.std.specs.List.Sorted.{IsStrictlySortedBy}
 use Rattle.std.proofs.ByRecursion.{All-weaker, all_has_itself, has_append_left, has_get_or, has_push, has_push_cases}
@@ -12,6 +13,8 @@ use Rattle.order.proofs.Orders.{not_below_itself}
 use Rattle.order.proofs.SortedLists.{sorted_insert}
 use Rattle.keys.specs.ByteOrder.{compare_bytes}
 use Rattle.keys.specs.Rows.{row_text}
+use Rattle.keys.specs.StoreKeys.{text}
+use Rattle.keys.specs.declared.store_key.StoreKey.{StoreKey}
 use Rattle.keys.specs.Text.{Bytes, padded}
 use Rattle.keys.specs.declared.row.Row.{Row}
 use Rattle.keys.specs.ByteOrderLemmas.{bytes_lawful}
@@ -20,6 +23,7 @@ use Rattle.storage.specs.Contents.{earlier, all_after, ascending}
 use Rattle.storage.proofs.Ascends.{after_parts, ascending_parts}
 use Rattle.storage.proofs.Order.{clash}
 use Rattle.listings.specs.Listings.{Exactly, row_for}
+use Rattle.listings.specs.StoredKeys.{GivesKey}
 use Rattle.listings.specs.Picks.{Chosen, Picks, Gathered, Counts, Counted}
 use Rattle.listings.specs.declared.gather.Tally.{Tally}
 use Rattle.listings.specs.declared.pick.Selection.{Selection}
@@ -62,6 +66,14 @@ no_key ks n e =
       | inl l ↦ let h = slice_get-get_or ks n [] l in absurd (let z : ◌≡◌ {A = ℕ} 0 1 = cc in omega arith)
       | inr l ↦ l
     ]
+
+-- the same of an iterator's next key, where it goes over the store z
+
+pub given_key : {S : Type 0} (keys : S → List Bytes) (s z : S) (n m : ℕ) (k : StoreKey) → s ≡ z → GivesKey (keys s) n (Some k) m → (Some (text k) ≡ slice_get (keys z) n) × (m ≡ n + 1)
+given_key keys s z n m k e (there, next) = (there ∙ ap (λ x. slice_get (keys x) n) e, next)
+
+pub given_none : {S : Type 0} (keys : S → List Bytes) (s z : S) (n m : ℕ) → s ≡ z → GivesKey (keys s) n None m → None ≡ slice_get (keys z) n
+given_none keys s z n m e (none, next) = none ∙ ap (λ x. slice_get (keys x) n) e
 
 -- rows are known by their texts
 
@@ -142,8 +154,31 @@ module _ (s : Selection) (p : Bytes) (ks : List Bytes) (k : Bytes) (later : (j :
 
 -- counting
 
+abbrev last_row : List Bytes → Option Row
+last_row ts = option_map row_for (slice_get ts (length ts - 1))
+
+last_some : (ts : List Bytes) → 0 < length ts → last_row ts ≡ Some (row_for (get_or ts (length ts - 1) []))
+last_some ts l = ap (option_map row_for) (slice_get-get_or ts (length ts - 1) [] (omega arith))
+
+last_push : (ts : List Bytes) (t : Bytes) → last_row (ts ++ (t ∷ [])) ≡ Some (row_for t)
+last_push ts t =
+    last_some (ts ++ (t ∷ [])) (omega (arith, length_push ts t))
+    ∙ ap (λ z. Some (row_for z)) (ap (λ j. get_or (ts ++ (t ∷ [])) (j - 1) []) (length_push ts t) ∙ get_or_push ts t [] (length ts + 1 - 1) (omega arith))
+
+has_last : (ts : List Bytes) (t : Bytes) → last_row ts ≡ Some (row_for t) → Has ts t
+has_last ts t e =
+    elim (cases_lt 0 (length ts)) [
+      | inl l ↦
+          let h = last_some ts l in
+          let q : row_for (get_or ts (length ts - 1) []) ≡ row_for t = cc in
+          subst (Has ts) (row_injective (get_or ts (length ts - 1) []) t q) (has_get_or ts (length ts - 1) [] (omega arith))
+      | inr l ↦
+          let h = ap (option_map row_for) (slice_get_past ts (length ts - 1) (omega arith)) in
+          absurd (let z : ◌≡◌ {A = ℕ} 0 1 = cc in omega arith)
+    ]
+
 abbrev pub Tallied : Selection → Bytes → List Bytes → Tally → Type 0
-Tallied s p ks a = (ts : List Bytes) × Exactly (Gathered s p ks) ts × (a.count ≡ length ts) × (0 < a.count → a.last ≡ row_for (get_or ts (a.count - 1) []))
+Tallied s p ks a = (ts : List Bytes) × Exactly (Gathered s p ks) ts × (a.count ≡ length ts) × (a.last ≡ last_row ts)
 
 pub gather_nothing : (s : Selection) (p : Bytes) → Exactly (Gathered s p []) []
 unfolding IsStrictlySortedBy
@@ -152,19 +187,22 @@ gather_nothing s p = record { ascends = tt; each = λ t h. absurd (has_none t h)
 module _ (s : Selection) (p : Bytes) (ks : List Bytes) (k : Bytes) (later : (j : Bytes) → Has ks j → compare_bytes j k ≡ Less) (a b : Tally) where
   pub tally_more : (o : Option Row) → Tallied s p ks a → Picks s p k o → Counts a o b → Tallied s p (ks ++ (k ∷ [])) b
   tally_more None (ts, x, n, last) none e = subst (Tallied s p (ks ++ (k ∷ []))) (sym e) (ts, gather_none s p ks k later ts x none, n, last)
-  tally_more (Some row) (ts, x, n, last) (t, y, is) (inl (new, m, is_last)) =
-      let z : Exactly (Gathered s p (ks ++ (k ∷ []))) (ts ++ (t ∷ [])) =
-      gather_new s p ks k later ts t x y
-      (new_from_last s p ks k later ts t x y
-      (λ l e. ⊎_elim (λ c. omega arith) (λ c. c (is ∙ ap row_for (sym e) ∙ ap (λ j. row_for (get_or ts (j - 1) [])) (sym n) ∙ sym (last (omega arith)))) new)) in (
-        ts ++ (t ∷ []),
-        z,
-        m ∙ ap (λ j. j + 1) n ∙ sym (length_push ts t),
-        λ _. is_last ∙ is ∙ ap row_for (sym (ap (λ j. get_or (ts ++ (t ∷ [])) (j - 1) []) m ∙ get_or_push ts t [] (a.count + 1 - 1) (omega arith))),
-      )
-  tally_more (Some row) (ts, x, n, last) (t, y, is) (inr (some, old, e)) =
-      let same : t ≡ get_or ts (a.count - 1) [] = row_injective t (get_or ts (a.count - 1) []) (sym is ∙ old ∙ last some) in
-      subst (Tallied s p (ks ++ (k ∷ []))) (sym e) (ts, gather_again s p ks k later ts t x y (subst (Has ts) (sym same) (has_get_or ts (a.count - 1) [] (omega arith))), n, last)
+  tally_more (Some row) (ts, x, n, last) (t, y, is) (inl (new, m, is_last)) = (
+    ts ++ (t ∷ []),
+    gather_new s p ks k later ts t x y
+        (new_from_last s p ks k later ts t x y (λ l e. new (last ∙ last_some ts l ∙ ap (λ z. Some (row_for z)) e ∙ ap Some (sym is)))),
+    m ∙ ap (λ j. j + 1) n ∙ sym (length_push ts t),
+    is_last ∙ ap Some is ∙ sym (last_push ts t),
+  )
+  tally_more (Some row) (ts, x, n, last) (t, y, is) (inr (old, e)) =
+      subst (Tallied s p (ks ++ (k ∷ []))) (sym e) (ts, gather_again s p ks k later ts t x y (has_last ts t (sym last ∙ old ∙ ap Some is)), n, last)
+
+pub tally_none : (s : Selection) (p : Bytes) (ks : List Bytes) (n : ℕ) (a : Tally) → n ≡ 0 → a.count ≡ 0 → a.last ≡ None → (n ≤ length ks) × (a.count ≤ n) × Tallied s p (take n ks) a
+tally_none s p ks n a e f last = (
+  omega arith,
+  omega arith,
+  subst (λ j. Tallied s p (take j ks) a) (sym e) ([], gather_nothing s p, f, last),
+)
 
 -- keys in order, up to one
 pub earlier_keys : (ks : List Bytes) (n : ℕ) (k : Bytes) → ascending ks ≡ true → n < length ks → get_or ks n k ≡ k → (j : Bytes) → Has (take n ks) j → compare_bytes j k ≡ Less
@@ -175,7 +213,7 @@ earlier_keys ks n k a l e j (i, h, at) =
 count_step : (a b : Tally) (o : Option Row) (n : ℕ) → Counts a o b → a.count ≤ n → b.count ≤ n + 1
 count_step a b None n e l = rw e (omega arith)
 count_step a b (Some row) n (inl (_, m, _)) l = omega arith
-count_step a b (Some row) n (inr (_, _, e)) l = rw e (omega arith)
+count_step a b (Some row) n (inr (_, e)) l = rw e (omega arith)
 
 -- one more turn, over the keys of a store
 module _ (ks : List Bytes) (n : ℕ) (k : Bytes) (ascends : ascending ks ≡ true) (there : Some k ≡ slice_get ks n) where
@@ -185,12 +223,13 @@ module _ (ks : List Bytes) (n : ℕ) (k : Bytes) (ascends : ascending ks ≡ tru
   pub next_later : (j : Bytes) → Has (take n ks) j → compare_bytes j k ≡ Less
   next_later = let h = key_there ks n k there in earlier_keys ks n k ascends h.0 h.1
 
-  pub tally_next : (s : Selection) (p : Bytes) (a b : Tally) (o : Option Row) → (n ≤ length ks) × (a.count ≤ n) × Tallied s p (take n ks) a → Picks s p k o → Counts a o b → (n + 1 ≤ length ks) × (b.count ≤ n + 1) × Tallied s p (take (n + 1) ks) b
-  tally_next s p a b o (l, m, t) y c = (
-    omega (arith, (key_there ks n k there).0),
-    count_step a b o n c m,
-    subst (λ z. Tallied s p z b) next_keys (tally_more s p (take n ks) k next_later a b o t y c),
-  )
+  pub tally_next : (s : Selection) (p : Bytes) (a b : Tally) (o : Option Row) (m : ℕ) → m ≡ n + 1 → a.count ≤ n → Tallied s p (take n ks) a → Picks s p k o → Counts a o b → (m ≤ length ks) × (b.count ≤ m) × Tallied s p (take m ks) b
+  tally_next s p a b o m e l t y c =
+      subst (λ j. (j ≤ length ks) × (b.count ≤ j) × Tallied s p (take j ks) b) (sym e) (
+        omega (arith, (key_there ks n k there).0),
+        count_step a b o n c l,
+        subst (λ z. Tallied s p z b) next_keys (tally_more s p (take n ks) k next_later a b o t y c),
+      )
 
 pub tally_all : (s : Selection) (p : Bytes) (ks : List Bytes) (n : ℕ) (a : Tally) → None ≡ slice_get ks n → Tallied s p (take n ks) a → Counted (Gathered s p ks) a.count
 tally_all s p ks n a none (ts, x, m, _) = (ts, subst (λ z. Exactly (Gathered s p z) ts) (take_all n ks (no_key ks n none)) x, m)

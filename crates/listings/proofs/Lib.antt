@@ -1,4 +1,5 @@
 pub mod SortedSets
+pub mod Components
 pub mod Children
 pub mod Gathers
 pub mod Fills

@@ -48,6 +48,10 @@ module _ (p : Bytes) (c : Contents) where
         total-sum c,
       )
 
+  pub sum_none : (n : ℕ) → n ≡ 0 → 0 ≡ total (filter test (take n c))
+  unfolding total
+  sum_none n e = rw e refl
+
   pub sum_all : (n : ℕ) → None ≡ slice_get (keys_of c) n → total (filter test (take n c)) ≡ size_under p c
   sum_all n none = ap (λ (z : Contents). total (filter test z)) (take_all n c (omega (arith, no_key (keys_of c) n none, length-map c (λ e. e.key))))
 
@@ -56,7 +60,7 @@ module _ (p : Bytes) (c : Contents) where
     abbrev entry : Entry
     entry = get_or c n (record { key = k; value = [] })
 
-    pub within : n < length c
+    within : n < length c
     within = omega (arith, (key_there (keys_of c) n k there).0, length-map c (λ e. e.key))
 
     named : entry.key ≡ k
@@ -79,12 +83,12 @@ module _ (p : Bytes) (c : Contents) where
         ∙ total_both (filter test (take n c)) (cond (test entry) (entry ∷ []) [])
         ∙ ap (λ t. total (filter test (take n c)) + total (cond t (entry ∷ []) [])) (ap (under p) named ∙ e)
 
-    pub sum_more : (v : ℕ) → under p k ≡ true → v ≡ length (bytes_of (found k c)) → total (filter test (take n c)) + v ≡ total (filter test (take (n + 1) c))
+    pub sum_more : (m v : ℕ) → m ≡ n + 1 → under p k ≡ true → v ≡ length (bytes_of (found k c)) → total (filter test (take n c)) + v ≡ total (filter test (take m c))
     unfolding total
-    sum_more v u e =
+    sum_more m v h u e =
         let len : v ≡ length entry.value = e ∙ ap (λ (o : Option Bytes). length (bytes_of o)) value in
-        omega (arith, next true u)
+        rw h (omega (arith, next true u))
 
-    pub sum_same : under p k ≡ false → total (filter test (take n c)) ≡ total (filter test (take (n + 1) c))
+    pub sum_same : (m : ℕ) → m ≡ n + 1 → under p k ≡ false → total (filter test (take n c)) ≡ total (filter test (take m c))
     unfolding total
-    sum_same u = omega (arith, next false u)
+    sum_same m h u = rw h (omega (arith, next false u))

@@ -1,3 +1,4 @@
 pub mod Listings
 pub mod Picks
+pub mod StoredKeys
 pub mod ListingExamples

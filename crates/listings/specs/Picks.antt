@@ -3,17 +3,16 @@
 --   Picks                      what `pick` answers
 --   Gathered s p ks t          of one of the keys
 --   Listing s p c              the texts that a selection lists of the contents
---   FirstSlash                 where the first slash from a place on stands
 --   Counts                     one more row counted, but where it repeats the last
 --   Puts                       one more row put among sorted ones
 --   Counted, Spacious, Filled  how many texts there are; they find room; their rows at the front
-use Rattle.std.specs.Prelude.{◌≡◌, ℕ, ◌+◌, ◌<◌, ◌≤◌, ◌⊎◌, List, map, length, Some, None, Option, Result, ◌≢◌, slice_index}
+use Rattle.std.specs.Prelude.{◌≡◌, ℕ, ◌+◌, ◌≤◌, ◌⊎◌, List, map, length, Some, None, Option, Result, ◌≢◌}
 use Rattle.std.specs.Result.{result_unwrap_or}
 use Rattle.std.specs.List.{ContainsAt as Has}
 use Rattle.order.specs.SortedLists.{Inserted}
 use Rattle.order.specs.declared.sorted_list.SortedListError.{SortedListError}
 use Rattle.keys.specs.Rows.{compare_rows}
-use Rattle.keys.specs.Text.{Bytes, slash, Begins}
+use Rattle.keys.specs.Text.{Bytes, Begins}
 use Rattle.keys.specs.StorePrefixes.{prefix_text}
 use Rattle.keys.specs.declared.row.Row.{Row}
 use Rattle.keys.specs.declared.store_prefix.StorePrefix.{StorePrefix}
@@ -46,10 +45,6 @@ Listing DirectKeys p c = DirectKey p c
 Listing Prefixes p c = ChildPrefix p c
 Listing Children p c = Child p c
 
-abbrev pub FirstSlash : Bytes → ℕ → Option ℕ → Type 0
-FirstSlash t start None = (k : ℕ) → start ≤ k → k < length t → slice_index t k ≢ slash
-FirstSlash t start (Some i) = (start ≤ i) × (i < length t) × (slice_index t i ≡ slash) × ((k : ℕ) → start ≤ k → k < i → slice_index t k ≢ slash)
-
 -- the prefix that a key extends
 abbrev pub ChildOf : Bytes → Bytes → Option StorePrefix → Type 0
 ChildOf p k None = (t : Bytes) → Extends p k t → ⊥
@@ -58,8 +53,8 @@ ChildOf p k (Some q) = Extends p k (prefix_text q)
 abbrev pub Counts : Tally → Option Row → Tally → Type 0
 Counts a None b = b ≡ a
 Counts a (Some row) b =
-    (((a.count ≡ 0) ⊎ (row ≢ a.last)) × (b.count ≡ a.count + 1) × (b.last ≡ row))
-    ⊎ ((0 < a.count) × (row ≡ a.last) × (b ≡ a))
+    ((a.last ≢ Some row) × (b.count ≡ a.count + 1) × (b.last ≡ Some row))
+    ⊎ ((a.last ≡ Some row) × (b ≡ a))
 
 abbrev pub Counted : (Bytes → Type 0) → ℕ → Type 0
 Counted P n = (ts : List Bytes) × Exactly P ts × (n ≡ length ts)

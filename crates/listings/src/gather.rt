@@ -6,6 +6,7 @@ ghost use Rattle.storage.specs.Contents.{keys_of};
 ghost use Rattle.listings.specs.Picks.{Counts, Puts, Gathered, Counted, Spacious, Filled};
 
 use crate::pick::{Selection, pick};
+use crate::stored_keys::stored_keys;
 use keys::row::Row;
 use keys::store_prefix::StorePrefix;
 use order::sorted_list::insert_sorted;
@@ -15,7 +16,7 @@ use storage::storage_sync::writes::ListableStorageTraits;
 #[derive(Clone, Copy)]
 pub(crate) struct Tally {
     count: usize,
-    last: Row,
+    last: Option<Row>,
 }
 
 impl Tally {
@@ -24,12 +25,13 @@ impl Tally {
         requires { self.count < 2 ^ 63 }
         ensures { Counts self picked result }
     {
-        match picked {
-            Some(row) if self.count == 0 || row != self.last => Tally {
+        match (self.last, picked) {
+            (_, None) => self,
+            (Some(last), Some(row)) if last == row => self,
+            (_, Some(_)) => Tally {
                 count: self.count + 1,
-                last: row,
+                last: picked,
             },
-            _ => self,
         }
     }
 }
@@ -44,12 +46,10 @@ pub(crate) fn count<S: ListableStorageTraits>(
 {
     let mut tally = Tally {
         count: 0,
-        last: Row::empty(),
+        last: None,
     };
-    let mut n = 0;
-    while let Some(key) = store.key_at(n) {
+    for key in stored_keys(store) {
         tally = tally.with(pick(selection, &key, prefix));
-        n += 1;
     }
     tally.count
 }
@@ -65,10 +65,8 @@ pub(crate) fn fill<S: ListableStorageTraits>(
     ensures { Filled (Gathered selection (prefix_text prefix.now) (keys_of (S.ReadableStorageTraits.contents store.now))) rows.old rows.new }
 {
     let mut len = 0;
-    let mut n = 0;
-    while let Some(key) = store.key_at(n) {
+    for key in stored_keys(store) {
         len = put(rows, len, pick(selection, &key, prefix));
-        n += 1;
     }
 }
 

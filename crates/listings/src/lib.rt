@@ -4,3 +4,4 @@
 mod gather;
 pub mod listing;
 mod pick;
+pub mod stored_keys;

@@ -3,12 +3,14 @@
 ghost use Rattle.std.specs.Prelude.{◌≡◌, [], length};
 ghost use Rattle.keys.specs.StoreKeys.{text};
 ghost use Rattle.keys.specs.StorePrefixes.{prefix_text};
-ghost use Rattle.storage.specs.Contents.{found, bytes_of, total};
+ghost use Rattle.storage.specs.Contents.{total};
+ghost use Rattle.storage.specs.Stores.{value_in};
 ghost use Rattle.listings.specs.Listings.{Stored, StoredUnder, Child, Listed, DirListed, size_under};
 ghost use Rattle.listings.specs.Picks.{Listing};
 
 use crate::gather::{count, fill};
 use crate::pick::Selection;
+use crate::stored_keys::stored_keys;
 use keys::row::Row;
 use keys::store_key::StoreKey;
 use keys::store_prefix::StorePrefix;
@@ -124,19 +126,17 @@ fn added<S: ListableStorageTraits>(store: &S, prefix: &StorePrefix) -> u64
     ensures root { prefix_text prefix.now ≡ [] → result ≡ total (S.ReadableStorageTraits.contents store.now) }
 {
     let mut size = 0;
-    let mut n = 0;
-    while let Some(key) = store.key_at(n) {
+    for key in stored_keys(store) {
         if key.has_prefix(prefix) {
             size += value_len(store, &key);
         }
-        n += 1;
     }
     size
 }
 
 /// The length of the value under `key`, 0 where it is not stored.
 fn value_len<S: ListableStorageTraits>(store: &S, key: &StoreKey) -> u64
-    ensures { result ≡ length (bytes_of (found (text key.now) (S.ReadableStorageTraits.contents store.now))) }
+    ensures { result ≡ length (value_in S.ReadableStorageTraits (text key.now) store.now) }
 {
     store.size_key(key).unwrap_or(0)
 }

@@ -8,32 +8,16 @@ use session::run::{run_line, write_holds};
 use std::io;
 use std::io::{Read, Write};
 
-/// The bytes before the first line feed, and those behind it.
-fn next_line(text: &[u8]) -> (&[u8], &[u8]) {
-    for i in 0..text.len() {
-        if text[i] == b'\n' {
-            return (&text[0..i], &text[i + 1..text.len()]);
-        }
-    }
-    (text, &text[text.len()..text.len()])
-}
-
 /// Performs the lines of a script in order.
 fn run(
     rt: &HostRuntime,
     look_box: &mut AtomicWriteStorageAdapter<MemoryStore>,
     script: &[u8],
 ) -> io::Result<()> {
-    let mut rest = script;
-    for i in 0..script.len() {
-        if rest.len() == 0 {
-            break;
-        }
-        let (line, more) = next_line(rest);
+    for (i, line) in script.split(|b| *b == b'\n').enumerate() {
         let mut out = Vec::new(rt.alloc());
-        run_line(look_box, i as u64 + 1, line, &mut out, rt.alloc())?;
+        run_line(look_box, i as u64 + 1, line, &mut out)?;
         rt.stdout().write_all(out.as_slice())?;
-        rest = more;
     }
     Ok(())
 }
@@ -45,7 +29,7 @@ fn main(rt: HostRuntime) -> io::Result<()> {
     let mut look_box = AtomicWriteStorageAdapter::new(store);
     let ran = run(&rt, &mut look_box, script.as_slice());
     let mut out = Vec::new(rt.alloc());
-    let written = write_holds(&look_box, &mut out, rt.alloc());
+    let written = write_holds(&look_box, &mut out);
     drop(look_box.into_inner());
     ran?;
     written?;

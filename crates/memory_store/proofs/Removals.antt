@@ -1,7 +1,7 @@
 -- Keys taken out of slots and row.
-use Rattle.std.proofs.Common.{◌≡◌, ℕ, suc, ◌+◌, ◌<◌, Bool, false, ◌⊎◌, List, [], ◌∷◌, ◌++◌, length, get_or, take, drop, sym, refl, ap, ◌∙◌, inl, inr, arith, length-take}
+use Rattle.std.proofs.Common.{◌≡◌, ℕ, suc, ◌+◌, ◌-◌, ◌<◌, ◌≤◌, Bool, false, ◌⊎◌, List, [], ◌∷◌, ◌++◌, length, get_or, take, drop, sym, refl, ap, ◌∙◌, inl, inr, arith, length-append, length-take, length-drop}
 use Rattle.std.proofs.lemmas.Bool.{cases_eq}
-use Rattle.std.proofs.lemmas.List.{get_or_append_left, get_or-take, get_or_default}
+use Rattle.std.proofs.lemmas.List.{get_or-append_right, get_or-drop, get_or_default}
 use Rattle.keys.specs.Text.{Bytes}
 use Rattle.keys.specs.StoreKeys.{text}
 use Rattle.storage.specs.Contents.{Contents, without}
@@ -17,17 +17,29 @@ none_pass t (s ∷ ss) row h =
     without_keep t _ (cut ss (drop s.len row)) (h 0 s (omega arith))
     ∙ ap (λ (c : Contents). record { key = text s.key; value = take s.len row } ∷ c) (none_pass t ss (drop s.len row) (λ j d l. h (suc j) d (omega arith)))
 
--- what stands below a place is there still once the slot at the place is out
-pub below_out : (ss ss' : List Slot) (i : ℕ) → i < length ss → ss' ≡ take i ss ++ drop (i + 1) ss → (j : ℕ) (d : Slot) → j < i → get_or ss' j d ≡ get_or ss j d
-below_out ss ss' i h e j d l =
+-- what stands from a place on once the slot at the place is out stood one higher
+above_out : (ss ss' : List Slot) (i : ℕ) → i < length ss → ss' ≡ take i ss ++ drop (i + 1) ss → (j : ℕ) (d : Slot) → i ≤ j → get_or ss' j d ≡ get_or ss (j + 1) d
+above_out ss ss' i h e j d l =
     ap (λ (x : List Slot). get_or x j d) e
-    ∙ get_or_append_left (take i ss) (drop (i + 1) ss) d j (omega (arith, length-take i ss))
-    ∙ get_or-take i ss j d l
+    ∙ get_or-append_right (take i ss) (drop (i + 1) ss) i j d (length-take i ss ∙ omega arith) l
+    ∙ get_or-drop (i + 1) ss (j - i) d
+    ∙ ap (λ n. get_or ss n d) (omega arith)
 
--- one slot more fails the test
-pub one_more : (t : Bytes → Bool) (ss : List Slot) (i : ℕ) (s : Slot) → i < length ss → s ≡ get_or ss i s → t (text s.key) ≡ false → ((j : ℕ) (d : Slot) → j < i → t (text (get_or ss j d).key) ≡ false) → (j : ℕ) (d : Slot) → j < i + 1 → t (text (get_or ss j d).key) ≡ false
-one_more t ss i s h is f below j d l = go (cases_eq j i)
-  where
-    go : (j ≡ i) ⊎ (j ≡ i → ⊥) → t (text (get_or ss j d).key) ≡ false
-    go (inl e) = ap (λ n. t (text (get_or ss n d).key)) e ∙ ap (λ (x : Slot). t (text x.key)) (get_or_default ss i d s h ∙ sym is) ∙ f
-    go (inr n) = below j d (omega arith)
+-- no slot from a place on passes the test
+abbrev pub NoneFrom : (Bytes → Bool) → List Slot → ℕ → Type 0
+NoneFrom t ss i = (j : ℕ) (d : Slot) → i ≤ j → j < length ss → t (text (get_or ss j d).key) ≡ false
+
+module _ (t : Bytes → Bool) (ss : List Slot) (i m : ℕ) (next : i ≡ m + 1) (h : m < length ss) (none : NoneFrom t ss i) where
+  -- the slot below the place is out
+  pub none_out : (ss' : List Slot) → ss' ≡ take m ss ++ drop (m + 1) ss → NoneFrom t ss' m
+  none_out ss' e j d l k =
+      ap (λ (x : Slot). t (text x.key)) (above_out ss ss' m h e j d l)
+      ∙ none (j + 1) d (omega arith) (omega (arith, ap length e, length-append (take m ss) (drop (m + 1) ss), length-take m ss, length-drop (m + 1) ss))
+
+  -- it fails the test
+  pub none_more : (s : Slot) → s ≡ get_or ss m s → t (text s.key) ≡ false → NoneFrom t ss m
+  none_more s is f j d l k = go (cases_eq j m)
+    where
+      go : (j ≡ m) ⊎ (j ≡ m → ⊥) → t (text (get_or ss j d).key) ≡ false
+      go (inl e) = ap (λ n. t (text (get_or ss n d).key)) e ∙ ap (λ (x : Slot). t (text x.key)) (get_or_default ss m d s h ∙ sym is) ∙ f
+      go (inr n) = none j d (omega arith) k

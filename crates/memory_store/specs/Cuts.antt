@@ -1,13 +1,16 @@
 -- A row cut by the lengths of its values, in parts.
-use Rattle.std.specs.Prelude.{◌≡◌, ℕ, zero, suc, ◌+◌, ◌<◌, ◌≤◌, List, [], ◌∷◌, ◌++◌, length, take, drop, Some, None, slice_index_or, refl}
+use Rattle.std.specs.Prelude.{◌≡◌, ℕ, zero, suc, ◌+◌, ◌<◌, ◌≤◌, List, [], ◌∷◌, ◌++◌, length, take, drop, Some, None, Option, slice_index_or, refl}
 use Rattle.std.proofs.Common.{sym, ◌∙◌, ap, arith, add_assoc, zero-add, add-zero, length-take, length-drop}
 use Rattle.std.proofs.lemmas.List.{take_more, take-append-le, drop-append-le, take_at, drop_at, take-append-drop}
 use Rattle.std.proofs.lemmas.Option.{slice_get_read, slice_get_past}
-use Rattle.std.specs.List.{slice_get}
-use Rattle.std.specs.Option.{option_map}
+use Rattle.std.proofs.lemmas.List.Sums.{sum_by-cons}
+use Rattle.std.specs.List.{slice_get, sum_by, HoldsAt}
+use Rattle.std.specs.Borrow.{Bor}
+use Rattle.std.specs.Option.{option_map, MatchOption}
 use Rattle.keys.specs.Text.{Bytes}
 use Rattle.keys.specs.StoreKeys.{text}
 use Rattle.storage.specs.Contents.{Contents, keys_of, total, Lawful}
+use Rattle.keys.specs.declared.store_key.StoreKey.{StoreKey}
 use Rattle.memory_store.specs.declared.slot.Slot.{Slot}
 use Rattle.memory_store.specs.Slots.{slot_keys, lens, cut}
 
@@ -83,19 +86,18 @@ total-cut (s ∷ ss) row h =
 pub lens-take : (ss : List Slot) (i : ℕ) → lens (take i ss) ≤ lens ss
 lens-take ss i = omega (arith, lens-append (take i ss) (drop i ss), ap lens (take-append-drop i ss))
 
-pub lens_more : (ss : List Slot) (i : ℕ) (d : Slot) → i < length ss → lens (take (i + 1) ss) ≡ lens (take i ss) + (slice_index_or ss i d).len
+-- the lengths added up, as std adds them
+pub sum_by-lens : (ss : List Slot) → sum_by (λ (s : Slot). s.len) ss ≡ lens ss
 unfolding lens
-lens_more ss i d h =
-    ap lens (take_more ss i d h)
-    ∙ lens-append (take i ss) (slice_index_or ss i d ∷ [])
-    ∙ ap (λ n. lens (take i ss) + n) (add-zero (slice_index_or ss i d).len)
+sum_by-lens [] = refl
+sum_by-lens (s ∷ ss) = sum_by-cons (λ (x : Slot). x.len) s ss ∙ ap (λ n. s.len + n) (sum_by-lens ss)
 
 -- the stored keys keep the rule of keys, and their length
 pub lawful_cut : (ss : List Slot) (row : Bytes) → Lawful (cut ss row)
 unfolding cut Lawful
 lawful_cut [] row = tt
 lawful_cut (s ∷ ss) row =
-    (s.key.rule, omega (arith, length-take s.key.len s.key.bytes, s.key.within), lawful_cut ss (drop s.len row))
+    (s.key.rule, s.key.within, lawful_cut ss (drop s.len row))
 
 -- the n-th key is that of the n-th slot
 pub nth_slot_keys : (ss : List Slot) (n : ℕ) → slice_get (slot_keys ss) n ≡ option_map (λ (s : Slot). text s.key) (slice_get ss n)
@@ -107,7 +109,32 @@ nth_slot_keys (s ∷ ss) (suc n) = nth_slot_keys ss n
 pub nth_cut : (ss : List Slot) (row : Bytes) (n : ℕ) → slice_get (keys_of (cut ss row)) n ≡ option_map (λ (s : Slot). text s.key) (slice_get ss n)
 nth_cut ss row n = ap (λ (ks : List Bytes). slice_get ks n) (keys_of-cut ss row) ∙ nth_slot_keys ss n
 
--- the same, of slots behind a reference
+-- the same, of what is read of slots behind a reference
+pub key_given :
+    (ss items : List Slot) (row : Bytes) (n : ℕ) (o : Option (Bor Slot)) (r : Option StoreKey)
+    → items ≡ ss
+    → MatchOption o (length items ≤ n) (λ x. (n < length items) × HoldsAt (λ y. x.now ≡ y) items n)
+    → r ≡ option_map (λ x. x.now.key) o
+    → option_map text r ≡ slice_get (keys_of (cut ss row)) n
+key_given ss items row n o r e h is =
+    ap (option_map text) is
+    ∙ go o h
+    ∙ ap (λ (xs : List Slot). option_map (λ (x : Slot). text x.key) (slice_get xs n)) e
+    ∙ sym (nth_cut ss row n)
+  where
+    go : (o : Option (Bor Slot))
+        → MatchOption o (length items ≤ n) (λ x. (n < length items) × HoldsAt (λ y. x.now ≡ y) items n)
+        → option_map text (option_map (λ x. x.now.key) o) ≡ option_map (λ (x : Slot). text x.key) (slice_get items n)
+    go None h = ap (option_map (λ (x : Slot). text x.key)) (sym (slice_get_past items n h))
+    go (Some x) h = ap (option_map (λ (x : Slot). text x.key)) (sym (slice_get_read items (length items) n x.now refl h.0 (h.1 x.now)))
+
+pub lens_more : (ss : List Slot) (i : ℕ) (d : Slot) → i < length ss → lens (take (i + 1) ss) ≡ lens (take i ss) + (slice_index_or ss i d).len
+unfolding lens
+lens_more ss i d h =
+    ap lens (take_more ss i d h)
+    ∙ lens-append (take i ss) (slice_index_or ss i d ∷ [])
+    ∙ ap (λ n. lens (take i ss) + n) (add-zero (slice_index_or ss i d).len)
+
 pub key_there : (ss items : List Slot) (row : Bytes) (n : ℕ) (s : Slot) → items ≡ ss → n < length items → s ≡ slice_index_or items n s → Some (text s.key) ≡ slice_get (keys_of (cut ss row)) n
 key_there ss items row n s e h is =
     sym (nth_cut ss row n ∙ ap (λ (xs : List Slot). option_map (λ (x : Slot). text x.key) (slice_get xs n)) (sym e) ∙ ap (option_map (λ (x : Slot). text x.key)) (slice_get_read items (length items) n s refl h is))

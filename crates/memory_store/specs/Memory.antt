@@ -11,7 +11,7 @@ use Rattle.memory_store.specs.declared.memory_store.MemoryStore.{MemoryStore}
 use Rattle.memory_store.specs.Tables.{room, tabled}
 
 abbrev pub holds : MemoryStore → Contents
-holds m = tabled m.slots m.row
+holds m = tabled m.table
 
 -- a rename that finds nothing to move
 abbrev pub sourceless : Write → Contents → Bool

@@ -1,37 +1,13 @@
-//! The packed row of value bytes: a part put in, a part taken out.
+//! The packed row of value bytes: a part put in, a part taken out, a part written over.
 
-ghost use Rattle.std.specs.Prelude.{◌≡◌, ℕ, ◌+◌, ◌-◌, ◌<◌, ◌≤◌, ◌++◌, length, take, drop, vec_len, vec_capacity};
+ghost use Rattle.std.specs.Prelude.{◌≡◌, ◌+◌, ◌≤◌, ◌++◌, length, take, drop, vec_len, vec_capacity};
 
-/// Moves the bytes from `from` on up by `by` places; the last `by` bytes fall out.
-fn shift_up(s: &mut [u8], from: usize, by: usize)
-    requires { from + by ≤ length s.old }
-    ensures front { take from s.new ≡ take from s.old }
-    ensures back { drop (from + by) s.new ≡ take (length s.old - (from + by)) (drop from s.old) }
-{
-    let end = s.len() - by;
-    for i in (from..end).rev() {
-        s[i + by] = s[i];
-    }
-}
-
-/// Moves the bytes from `from` on down by `by` places.
-fn shift_down(s: &mut [u8], from: usize, by: usize)
-    requires { (by ≤ from) × (from ≤ length s.old) }
-    ensures { take (length s.old - by) s.new ≡ take (from - by) s.old ++ drop from s.old }
-{
-    for i in from..s.len() {
-        s[i - by] = s[i];
-    }
-}
-
-/// Puts `value` in before the byte at `at`; as many bytes at the end fall out.
-fn open_at(s: &mut [u8], at: usize, value: &[u8])
+/// Writes `value` over the bytes from `at` on.
+pub(crate) fn overwrite(s: &mut [u8], at: usize, value: &[u8])
     requires { at + length value.now ≤ length s.old }
-    ensures { s.new ≡ take at s.old ++ (value.now ++ take (length s.old - (at + length value.now)) (drop at s.old)) }
+    ensures { s.new ≡ take at s.old ++ (value.now ++ drop (at + length value.now) s.old) }
 {
-    let n = value.len();
-    shift_up(s, at, n);
-    s[at..at + n].copy_from_slice(value);
+    s[at..at + value.len()].copy_from_slice(value);
 }
 
 /// Puts `value` in before the byte at `at`, where the row has the capacity.
@@ -42,9 +18,11 @@ pub(crate) fn insert_bytes(row: &mut Vec<u8>, at: usize, value: &[u8])
     ensures len { vec_len row.new ≡ vec_len row.old + length value.now }
     ensures capacity { vec_capacity row.old ≤ vec_capacity row.new }
 {
+    let end = row.len();
     // the capacity suffices, so that this is no refusal
     let _ = row.extend_from_slice(value);
-    open_at(row.as_mut_slice(), at, value);
+    row.copy_within(at..end, at + value.len());
+    overwrite(row.as_mut_slice(), at, value);
 }
 
 /// Takes the `n` bytes from `at` on out.
@@ -54,7 +32,7 @@ pub(crate) fn remove_bytes(row: &mut Vec<u8>, at: usize, n: usize)
     ensures len { vec_len row.new + n ≡ vec_len row.old }
     ensures capacity { vec_capacity row.new ≡ vec_capacity row.old }
 {
-    let len = row.len();
-    shift_down(row.as_mut_slice(), at + n, n);
-    row.truncate(len - n);
+    let end = row.len();
+    row.copy_within(at + n..end, at);
+    row.truncate(end - n);
 }

@@ -1,9 +1,7 @@
-ghost use Rattle.std.specs.Prelude.{◌≡◌, ◌+◌, ◌<◌, ◌≤◌, ◌∷◌, ◌++◌, length, take, drop};
-ghost use Rattle.std.specs.List.{between};
-ghost use Rattle.order.specs.SortedLists.{list_fault, Placed, Inserted};
+ghost use Rattle.std.specs.Prelude.{◌≡◌, ◌≤◌, length};
+ghost use Rattle.order.specs.SortedLists.{list_fault, Put, Inserted};
 
 use crate::total_order::TotalOrder;
-use std::cmp::Ordering;
 
 /// Why a list does not take an element.
 #[derive(Clone, Copy, PartialEq, Eq, Debug)]
@@ -36,42 +34,21 @@ pub fn insert_sorted<T: TotalOrder>(
     if len > items.len() {
         return Err(SortedListError::Full);
     }
-    let place = match find(items, len, &x) {
-        Ok(_) => return Ok(len),
-        Err(place) => place,
-    };
+    match items[..len].binary_search_by(|y| y.compare(&x)) {
+        Ok(_) => Ok(len),
+        Err(place) => put(items, place, len, x),
+    }
+}
+
+/// Puts `x` at `place` among the first `len` of `items`, moving up by one what stands there and behind it, and answers how many are in use then.
+fn put<T: Copy>(items: &mut [T], place: usize, len: usize, x: T) -> Result<usize, SortedListError>
+    requires { (place ≤ len) × (len ≤ length items.old) }
+    ensures { Put items.old place len x items.new result }
+{
     if len == items.len() {
         return Err(SortedListError::Full);
     }
-    put(items, place, len, x);
-    Ok(len + 1)
-}
-
-/// Where `x` stands among the first `len` of `items`, or where it would go, looking from the end.
-fn find<T: TotalOrder>(items: &[T], len: usize, x: &T) -> Result<usize, usize>
-    requires { len ≤ length items.now }
-    ensures { Placed T.TotalOrder.compared items.now len x.now result }
-{
-    let mut i = len;
-    while i > 0 {
-        match x.compare(&items[i - 1]) {
-            Ordering::Less => i -= 1,
-            Ordering::Equal => return Ok(i - 1),
-            Ordering::Greater => return Err(i),
-        }
-    }
-    Err(0)
-}
-
-/// Moves the elements from `place` to `len` up by one, and writes `x` at `place`.
-fn put<T: Copy>(items: &mut [T], place: usize, len: usize, x: T)
-    requires { (place ≤ len) × (len < length items.old) }
-    ensures { items.new ≡ take place items.old ++ (x ∷ (between place len items.old ++ drop (len + 1) items.old)) }
-{
-    let mut i = len;
-    while i > place {
-        items[i] = items[i - 1];
-        i -= 1;
-    }
+    items.copy_within(place..len, place + 1);
     items[place] = x;
+    Ok(len + 1)
 }

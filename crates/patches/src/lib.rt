@@ -109,7 +109,7 @@ pub fn lay_patches_in_place(
     ensures answer { told patch_refusal result ≡ unless (in_place_no source.now patches.now old_len (length work.old)) (length (laid_all source.now patches.now (take old_len work.old))) }
     ensures work { work.new ≡ (if is_ok result then fronted (laid_all source.now patches.now (take old_len work.old)) work.old else work.old) }
 {
-    check_in_place(old_len, patches, source, work.len())?;
+    check_in_place(old_len as u64, patches, source, work.len())?;
     Ok(lay_all(old_len, patches, source, work))
 }
 
@@ -117,12 +117,12 @@ pub fn lay_patches_in_place(
 fn check_lay(old: &[u8], patches: &[Patch], source: &[u8], space: usize) -> Result<(), PatchError>
     ensures { told patch_refusal result ≡ unless (lay_no source.now patches.now old.now space) tt }
 {
-    check_in_place(old.len(), patches, source, space)
+    check_in_place(old.len() as u64, patches, source, space)
 }
 
-// The questions before patches are laid on `old_len` bytes.
-fn check_in_place(
-    old_len: usize,
+/// The questions before patches are laid on `old_len` bytes in a buffer of `space` bytes.
+pub fn check_in_place(
+    old_len: u64,
     patches: &[Patch],
     source: &[u8],
     space: usize,
@@ -130,14 +130,7 @@ fn check_in_place(
     ensures { told patch_refusal result ≡ unless (in_place_no source.now patches.now old_len space) tt }
 {
     check_patches(patches, source)?;
-    check_room(old_len, patches, space)
-}
-
-// Is there room for the patched bytes?
-fn check_room(old_len: usize, patches: &[Patch], space: usize) -> Result<(), PatchError>
-    ensures { told patch_refusal result ≡ unless (room space (patched_length old_len patches.now)) tt }
-{
-    match patched_len(old_len as u64, patches) {
+    match patched_len(old_len, patches) {
         Some(n) if n <= space as u64 => Ok(()),
         _ => Err(PatchError::Short),
     }

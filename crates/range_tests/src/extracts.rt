@@ -6,10 +6,10 @@ use ranges::byte_range::{ByteRange, InvalidByteRangeError};
 
 const BYTES: [u8; 5] = [1, 2, 3, 4, 5];
 
-const BLANK: Note = Note::Bytes(Place { start: 77, len: 77 });
+const BLANK: Note = Ok(Place { start: 77, len: 77 });
 
 fn place(start: usize, len: usize) -> Note {
-    Note::Bytes(Place { start, len })
+    Ok(Place { start, len })
 }
 
 #[test]
@@ -72,7 +72,7 @@ fn first_unfit(rt: HostRuntime) {
     assert!(rt; out == [7, 7, 7, 7, 7, 7]);
     assert!(rt; read_byte_ranges(&BYTES, &ranges, &mut out, &mut notes) == Ok(5));
     assert!(rt; out == [1, 2, 3, 4, 5, 7]);
-    assert!(rt; notes[1] == Note::Fault(fault));
+    assert!(rt; notes[1] == Err(fault));
     assert!(rt; notes[0] == place(0, 5));
 }
 

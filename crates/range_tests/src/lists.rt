@@ -1,4 +1,3 @@
-use order::total_order::TotalOrder;
 use ranges::byte_range::ByteRange;
 use ranges::read_list::ReadList;
 use std::cmp::Ordering;
@@ -16,7 +15,7 @@ fn order_of_ranges(rt: HostRuntime) {
     ];
     for (i, a) in ascending.iter().enumerate() {
         for (j, b) in ascending.iter().enumerate() {
-            assert!(rt; a.compare(b) == i.cmp(&j));
+            assert!(rt; a.cmp(b) == i.cmp(&j));
         }
     }
 }

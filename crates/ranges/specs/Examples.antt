@@ -1,7 +1,7 @@
 -- Examples of ranges, shown of the definitions.
 use Rattle.std.specs.Prelude.{◌≡◌, true, [], ◌∷◌, Some, None, Err}
 use Rattle.std.specs.Option.{ok_or}
-use Rattle.ranges.specs.declared.byte_range.Bound.TheVariants.{Included, Excluded}
+use Rattle.std.specs.declared.ops.Bound.TheVariants.{Included, Excluded}
 use Rattle.ranges.specs.declared.byte_range.ByteRange.TheVariants.{FromStart, Suffix}
 use Rattle.ranges.specs.Ranges.{bounded, fitting, picked}
 use Rattle.ranges.specs.Refusals.{refusal, unfit, all_fit}

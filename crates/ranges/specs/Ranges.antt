@@ -2,8 +2,8 @@
 use Rattle.std.specs.Prelude.{ℕ, ◌+◌, ◌-◌, ◌^◌, ◌≤◌, Bool, cond, ◌&&◌, List, [], length, take, drop, Some, None, Option, nat_le, nat_lt}
 use Rattle.ranges.specs.declared.byte_range.ByteRange.{ByteRange}
 use Rattle.ranges.specs.declared.byte_range.ByteRange.TheVariants.{FromStart, Suffix}
-use Rattle.ranges.specs.declared.byte_range.Bound.{Bound}
-use Rattle.ranges.specs.declared.byte_range.Bound.TheVariants.{Included, Excluded, Unbounded}
+use Rattle.std.specs.declared.ops.Bound.{Bound}
+use Rattle.std.specs.declared.ops.Bound.TheVariants.{Included, Excluded, Unbounded}
 use Rattle.ranges.specs.declared.byte_range.Range.{Range}
 
 abbrev pub Bytes : Type 0
@@ -55,7 +55,7 @@ spanning (Some o) None = None
 spanning (Some o) (Some l) = Some (FromStart o (Some l))
 
 -- the range that two bounds give: each difference is at least 0, each sum in u64
-abbrev pub bounded : Bound → Bound → Option ByteRange
+abbrev pub bounded : Bound ℕ → Bound ℕ → Option ByteRange
 bounded (Included s) (Included e) = only_if (nat_le s e && nat_lt (e - s + 1) (2 ^ 64)) (FromStart s (Some (e - s + 1)))
 bounded (Included s) (Excluded e) = only_if (nat_le s e) (FromStart s (Some (e - s)))
 bounded (Included s) Unbounded = Some (FromStart s None)

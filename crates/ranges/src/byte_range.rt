@@ -5,12 +5,13 @@
 ghost use Rattle.std.specs.Prelude.{◌≡◌, Decides};
 ghost use Rattle.std.specs.Option.{ok_or};
 ghost use Rattle.ranges.specs.Ranges.{start_of, end_of, length_of, span_of, bounded, spanning, fitting, Fits};
-ghost use Rattle.ranges.specs.Orders.{compare_lengths, compare_ranges};
+ghost use Rattle.ranges.specs.Orders.{compare_ranges};
 ghost use Rattle.ranges.specs.Refusals.{told, bounds_refusal, range_refusal, refusal, unfit};
-ghost use Rattle.ranges.specs.RangeOrder.{ranges_total, ranges_transitive, ranges_equal};
+ghost use Rattle.ranges.specs.RangeOrder.{ranges_equal, ranges_total, ranges_transitive};
 
 use order::total_order::TotalOrder;
 use std::cmp::Ordering;
+pub use std::ops::Bound;
 
 /// A byte offset.
 pub type ByteOffset = u64;
@@ -18,21 +19,13 @@ pub type ByteOffset = u64;
 /// A byte length.
 pub type ByteLength = u64;
 
-/// A byte range.
-#[derive(Clone, Copy, PartialEq, Eq)]
+/// A byte range. A range from the start comes before a suffix; then the lower offset, no length before any, the lower length.
+#[derive(Clone, Copy, PartialEq, Eq, PartialOrd, Ord)]
 pub enum ByteRange {
     /// A byte range from the start. If the byte length is `None`, it reaches to the end of the value.
     FromStart(ByteOffset, Option<ByteLength>),
     /// A suffix byte range.
     Suffix(ByteLength),
-}
-
-/// One end of a pair of bounds.
-#[derive(Clone, Copy, PartialEq, Eq)]
-pub enum Bound {
-    Included(u64),
-    Excluded(u64),
-    Unbounded,
 }
 
 /// The start and the exclusive end of a byte range.
@@ -79,7 +72,7 @@ impl InvalidByteRangeError {
 
 impl ByteRange {
     /// A byte range from two bounds, or a refusal where a step of the arithmetic leaves `u64`.
-    pub fn new(start: Bound, end: Bound) -> Result<ByteRange, BoundsError>
+    pub fn new(start: Bound<u64>, end: Bound<u64>) -> Result<ByteRange, BoundsError>
         ensures { told bounds_refusal result ≡ ok_or (bounded start end) (refusal 6) }
     {
         from_bounds(start, end).ok_or(BoundsError::OutOfBounds)
@@ -147,7 +140,6 @@ impl ByteRange {
     }
 }
 
-/// A range from the start comes before a suffix; then the lower offset, no length before any, the lower length.
 impl TotalOrder for ByteRange {
     ghost compared = { compare_ranges };
 
@@ -158,31 +150,12 @@ impl TotalOrder for ByteRange {
     ghost equal = { ranges_equal };
 
     fn compare(&self, other: &ByteRange) -> Ordering {
-        match (*self, *other) {
-            (ByteRange::FromStart(o, l), ByteRange::FromStart(p, m)) => match o.cmp(&p) {
-                Ordering::Equal => compare_lengths(l, m),
-                unequal => unequal,
-            },
-            (ByteRange::FromStart(_, _), ByteRange::Suffix(_)) => Ordering::Less,
-            (ByteRange::Suffix(_), ByteRange::FromStart(_, _)) => Ordering::Greater,
-            (ByteRange::Suffix(l), ByteRange::Suffix(m)) => l.cmp(&m),
-        }
-    }
-}
-
-fn compare_lengths(a: Option<u64>, b: Option<u64>) -> Ordering
-    ensures { result ≡ compare_lengths a b }
-{
-    match (a, b) {
-        (None, None) => Ordering::Equal,
-        (None, Some(_)) => Ordering::Less,
-        (Some(_), None) => Ordering::Greater,
-        (Some(l), Some(m)) => l.cmp(&m),
+        self.cmp(other)
     }
 }
 
 // What the two bounds give, step by step; none where a step leaves `u64`.
-fn from_bounds(start: Bound, end: Bound) -> Option<ByteRange>
+fn from_bounds(start: Bound<u64>, end: Bound<u64>) -> Option<ByteRange>
     ensures { result ≡ bounded start end }
 {
     match (start, end) {

@@ -13,14 +13,11 @@ fn extracted(
     notes: &mut [Note],
 ) -> (Result<usize, (u8, usize)>, u64) {
     let mut reader = SliceReader::new(bytes);
-    let answer = match extract_byte_ranges_read_seek(&mut reader, ranges, out, notes) {
-        Ok(n) => Ok(n),
-        Err(f) => Err((f.cause.number(), f.index)),
-    };
-    match reader.seek(SeekFrom::Current(0)) {
-        Ok(place) => (answer, place),
-        Err(_) => (answer, 0),
-    }
+    let answer = extract_byte_ranges_read_seek(&mut reader, ranges, out, notes);
+    (
+        answer.map_err(|f| (f.cause.number(), f.index)),
+        reader.seek(SeekFrom::Current(0)).unwrap_or(0),
+    )
 }
 
 fn from(offset: u64, length: u64) -> ByteRange {
@@ -32,7 +29,7 @@ fn rest(offset: u64) -> ByteRange {
 }
 
 fn at(start: usize, len: usize) -> Note {
-    Note::Bytes(Place { start, len })
+    Ok(Place { start, len })
 }
 
 #[test]

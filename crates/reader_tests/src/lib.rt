@@ -4,6 +4,8 @@
 #[cfg(test)]
 mod extracts;
 #[cfg(test)]
+mod fixture;
+#[cfg(test)]
 mod seeks;
 #[cfg(test)]
 mod values;

@@ -1,3 +1,4 @@
+use crate::fixture::told;
 use extraction::{Note, Place};
 use keys::store_key::StoreKey;
 use layers::countdown::Countdown;
@@ -13,36 +14,27 @@ use storage::fault::Cause;
 use storage::storage_sync::writes::WritableStorageTraits;
 
 fn key(text: &[u8]) -> StoreKey {
-    match StoreKey::new(text) {
-        Ok(key) => key,
-        Err(_) => StoreKey::root(),
-    }
+    StoreKey::new(text).unwrap_or(StoreKey::root())
 }
 
-/// The number of a read's refusal, 0 where it was accepted, and of the fault that it holds.
-fn told(r: Result<(), ReaderFault>) -> (u8, u8, u64) {
-    match r {
-        Ok(()) => (0, 0, 0),
-        Err(f) => match f.cause {
-            ReadCause::End(held) => (f.cause.number(), held.cause.number(), size(held.cause)),
-            _ => (f.cause.number(), 0, 0),
-        },
+/// The number of a read's refusal, and what it holds.
+fn read(r: Result<(), ReaderFault>) -> Result<(), (u8, Option<(u8, Option<u64>)>)> {
+    r.map_err(|f| (f.cause.number(), held(f.cause)))
+}
+
+/// The number of the store's fault that a cause holds, and the size in it.
+fn held(cause: ReadCause) -> Option<(u8, Option<u64>)> {
+    match cause {
+        ReadCause::End(fault) => Some((fault.cause.number(), size(fault.cause))),
+        _ => None,
     }
 }
 
 /// The size that a range fault holds.
-fn size(cause: Cause) -> u64 {
+fn size(cause: Cause) -> Option<u64> {
     match cause {
-        Cause::Range(e) => e.size,
-        _ => 0,
-    }
-}
-
-/// The place that a seek reached, or the number of its refusal.
-fn place(r: Result<u64, ReaderFault>) -> Result<u64, u8> {
-    match r {
-        Ok(place) => Ok(place),
-        Err(f) => Err(f.cause.number()),
+        Cause::Range(e) => Some(e.size),
+        _ => None,
     }
 }
 
@@ -52,17 +44,17 @@ fn a_value_is_read_through_a_layer(rt: HostRuntime) -> Result<(), Fail> {
     let _ = store.set(&key(b"a"), b"xyz");
     let mut reader = StorageValueIO::new(Countdown::new(store, 1, 1), key(b"a"));
     let mut out = [0u8; 2];
-    let end = place(reader.seek(SeekFrom::End(-2)));
-    let first = told(reader.read_exact(&mut out));
-    let past = told(reader.read_exact(&mut out));
-    let none = told(reader.read_exact(&mut out[0..0]));
-    let here = place(reader.seek(SeekFrom::Current(0)));
+    let end = told(reader.seek(SeekFrom::End(-2)));
+    let first = read(reader.read_exact(&mut out));
+    let past = read(reader.read_exact(&mut out));
+    let none = read(reader.read_exact(&mut out[0..0]));
+    let here = told(reader.seek(SeekFrom::Current(0)));
     drop(reader.into_inner().into_inner());
     assert_eq!(rt; end, Ok(1));
-    assert_eq!(rt; first, (0, 0, 0));
+    assert_eq!(rt; first, Ok(()));
     assert_eq!(rt; out, [121, 122]);
-    assert_eq!(rt; past, (14, 4, 3));
-    assert_eq!(rt; none, (0, 0, 0));
+    assert_eq!(rt; past, Err((14, Some((4, Some(3))))));
+    assert_eq!(rt; none, Ok(()));
     assert_eq!(rt; here, Ok(3));
     Ok(())
 }
@@ -71,15 +63,15 @@ fn a_value_is_read_through_a_layer(rt: HostRuntime) -> Result<(), Fail> {
 fn an_absent_value_has_no_end(rt: HostRuntime) -> Result<(), Fail> {
     let mut reader = StorageValueIO::new(MemoryStore::new(rt.alloc())?, key(b"a"));
     let mut out = [7u8; 1];
-    let end = place(reader.seek(SeekFrom::End(0)));
-    let start = place(reader.seek(SeekFrom::Start(5)));
-    let some = told(reader.read_exact(&mut out));
-    let none = told(reader.read_exact(&mut out[0..0]));
+    let end = told(reader.seek(SeekFrom::End(0)));
+    let start = told(reader.seek(SeekFrom::Start(5)));
+    let some = read(reader.read_exact(&mut out));
+    let none = read(reader.read_exact(&mut out[0..0]));
     drop(reader.into_inner());
     assert_eq!(rt; end, Err(5));
     assert_eq!(rt; start, Ok(5));
-    assert_eq!(rt; some, (5, 0, 0));
-    assert_eq!(rt; none, (0, 0, 0));
+    assert_eq!(rt; some, Err((5, None)));
+    assert_eq!(rt; none, Ok(()));
     assert_eq!(rt; out, [7]);
     Ok(())
 }
@@ -90,13 +82,13 @@ fn an_empty_value_is_readable(rt: HostRuntime) -> Result<(), Fail> {
     let _ = store.set(&key(b"a"), b"");
     let mut reader = StorageValueIO::new(store, key(b"a"));
     let mut out = [7u8; 1];
-    let end = place(reader.seek(SeekFrom::End(0)));
-    let none = told(reader.read_exact(&mut out[0..0]));
-    let some = told(reader.read_exact(&mut out));
+    let end = told(reader.seek(SeekFrom::End(0)));
+    let none = read(reader.read_exact(&mut out[0..0]));
+    let some = read(reader.read_exact(&mut out));
     drop(reader.into_inner());
     assert_eq!(rt; end, Ok(0));
-    assert_eq!(rt; none, (0, 0, 0));
-    assert_eq!(rt; some, (14, 4, 0));
+    assert_eq!(rt; none, Ok(()));
+    assert_eq!(rt; some, Err((14, Some((4, Some(0))))));
     Ok(())
 }
 
@@ -105,7 +97,7 @@ fn the_store_comes_back(rt: HostRuntime) -> Result<(), Fail> {
     let mut store = MemoryStore::new(rt.alloc())?;
     let _ = store.set(&key(b"a"), b"xyz");
     let mut out = [0u8; 4];
-    let mut notes = [Note::Bytes(Place { start: 0, len: 0 }); 2];
+    let mut notes = [Ok(Place { start: 0, len: 0 }); 2];
     let ranges = [ByteRange::Suffix(1), ByteRange::FromStart(1, None)];
     let below = Countdown::new(store, 1, 1);
     let (below, absent) = extract_stored_byte_ranges(
@@ -125,17 +117,9 @@ fn the_store_comes_back(rt: HostRuntime) -> Result<(), Fail> {
     let wrote = below.set(&key(b"b"), b"1").is_ok();
     let cut = below.set(&key(b"b"), b"2").is_err();
     drop(below.into_inner());
-    assert_eq!(rt; number(absent), (5, 0));
-    assert_eq!(rt; number(found), (0, 3));
+    assert_eq!(rt; told(absent), Err(5));
+    assert_eq!(rt; told(found), Ok(3));
     assert_eq!(rt; out, [122, 121, 122, 0]);
     assert!(rt; wrote && cut);
     Ok(())
-}
-
-/// The number of an extraction's refusal, 0 where it was accepted, and how many bytes it gave.
-fn number(r: Result<usize, ReaderFault>) -> (u8, usize) {
-    match r {
-        Ok(n) => (0, n),
-        Err(f) => (f.cause.number(), 0),
-    }
 }

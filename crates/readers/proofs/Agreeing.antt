@@ -10,8 +10,7 @@ use Rattle.ranges.specs.declared.byte_range.ByteRange.{ByteRange}
 use Rattle.ranges.specs.declared.byte_range.ByteRange.TheVariants.{FromStart, Suffix}
 use Rattle.ranges.proofs.Questions.{good_head, good_tail, enough_from_room}
 use Rattle.extraction.specs.Extracts.{items, note_at, notes_from, extract_no}
-use Rattle.extraction.specs.declared.Note.{Note}
-use Rattle.extraction.specs.declared.Note.TheVariants as note
+use Rattle.extraction.specs.Notes.{Note, placed}
 use Rattle.extraction.proofs.Picks.{picked_fits}
 use Rattle.storage.specs.Contents.{bytes_of}
 use Rattle.readers.specs.declared.reader_fault.ReaderFault.{ReaderFault}
@@ -75,7 +74,7 @@ module _ (b : Bytes) where
   fit_notes at (r ∷ rs) i f =
       let g = good_head fits tell i r rs f in
       let p = ap length (sym (picked_fits b r g)) in
-      let here : note.Bytes (record { start = at; len = length (inside b r) }) ≡ note_at at b r = rw g (ap (λ (n : ℕ). note.Bytes (record { start = at; len = n })) p) in
+      let here : placed at (length (inside b r)) ≡ note_at at b r = rw g (ap (λ (n : ℕ). placed at n) p) in
       ap (λ (x : Note). x ∷ places_from (at + length (inside b r)) b rs) here
       ∙ ap (λ (n : ℕ). note_at at b r ∷ places_from (at + n) b rs) p
       ∙ ap (λ (xs : List Note). note_at at b r ∷ xs) (fit_notes (at + length (picked b r)) rs (i + 1) (good_tail fits tell i r rs f))

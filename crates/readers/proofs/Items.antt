@@ -9,15 +9,16 @@ use Rattle.ranges.specs.Ranges.{only_if, start_of, inside}
 use Rattle.ranges.specs.declared.byte_range.ByteRange.{ByteRange}
 use Rattle.ranges.specs.declared.byte_range.ByteRange.TheVariants.{FromStart, Suffix}
 use Rattle.ranges.proofs.Writes.{put_part}
+use Rattle.std.specs.Result.{MatchResult}
 use Rattle.storage.specs.Contents.{bytes_of}
 use Rattle.readers.specs.declared.reader.Reader.{Ghosts}
 use Rattle.readers.specs.declared.reader_fault.ReaderFault.{ReaderFault}
 use Rattle.readers.specs.declared.reader_fault.ReadCause.TheVariants as cause
-use Rattle.readers.specs.ReaderFaults.{refused, refused_at, from_store, first_of, unless_fault}
+use Rattle.readers.specs.ReaderFaults.{refused, from_store, first_of, unless_fault}
 use Rattle.readers.specs.Readers.{read_no, read_part, part_fault, FilledBy}
 use Rattle.readers.specs.Moves.{MovedTo}
 use Rattle.readers.proofs.Seeking.{moved_at, moved_on}
-use Rattle.readers.specs.ItemSeeks.{start_given, indexed_by}
+use Rattle.readers.specs.ItemSeeks.{start_given}
 use Rattle.readers.specs.ReadSeek.{read_length, start_no, place_no, item_no}
 
 -- a read that is not refused: of no bytes, or within the value
@@ -94,13 +95,13 @@ given_some None x f h = let z : ◌≡◌ {A = ℕ} 0 1 = cc in absurd (omega ar
 given_some (Some e) x f h = cc
 
 -- an answer of the item at an index
-pub ok_from_indexed : (i len : ℕ) (a : Result ℕ ReaderFault) → Ok len ≡ indexed_by i a → a ≡ Ok len
-ok_from_indexed i len (Ok x) h = sym h
-ok_from_indexed i len (Err f) h = let z : ◌≡◌ {A = ℕ} 0 1 = cc in absurd (omega arith)
+pub ok_from_mapped : (len : ℕ) (a : Result ℕ ReaderFault) → MatchResult a (λ x. ◌≡◌ {A = Result ℕ ReaderFault} (Ok len) (Ok x)) (λ _. ⊥) → a ≡ Ok len
+ok_from_mapped len (Ok x) h = let e : x ≡ len = cc in cc
+ok_from_mapped len (Err f) h = absurd h
 
-pub err_from_indexed : (i : ℕ) (g : ReaderFault) (a : Result ℕ ReaderFault) → Err g ≡ indexed_by i a → (f : ReaderFault) × (a ≡ Err f) × (g ≡ refused_at i f.cause)
-err_from_indexed i g (Ok x) h = let z : ◌≡◌ {A = ℕ} 0 1 = cc in absurd (omega arith)
-err_from_indexed i g (Err f) h = (f, refl, cc)
+pub err_from_mapped : {Q : ReaderFault → Type 0} (g : ReaderFault) (a : Result ℕ ReaderFault) → MatchResult a (λ x. ◌≡◌ {A = Result ℕ ReaderFault} (Err g) (Ok x)) Q → (f : ReaderFault) × (a ≡ Err f) × Q f
+err_from_mapped g (Ok x) h = let z : ◌≡◌ {A = ℕ} 0 1 = cc in absurd (omega arith)
+err_from_mapped g (Err f) h = (f, refl, h)
 
 -- an item that is not refused has its place
 firsts_none : (p q : Option ReaderFault) → first_of p q ≡ None → (p ≡ None) × (q ≡ None)

@@ -1,4 +1,3 @@
-pub mod Reading
 pub mod OneRange
 pub mod Seeking
 pub mod Items

@@ -11,8 +11,7 @@ use Rattle.ranges.specs.Ranges.{only_if, start_of, inside}
 use Rattle.ranges.specs.declared.byte_range.ByteRange.{ByteRange}
 use Rattle.ranges.specs.declared.byte_range.ByteRange.TheVariants.{FromStart}
 use Rattle.ranges.proofs.Writes.{fronted_from_paste}
-use Rattle.extraction.specs.declared.Note.{Note}
-use Rattle.extraction.specs.declared.Note.TheVariants as note
+use Rattle.extraction.specs.Notes.{Note, placed}
 use Rattle.storage.specs.Contents.{bytes_of, sized}
 use Rattle.readers.specs.declared.reader.Reader.{Ghosts}
 use Rattle.readers.specs.declared.reader_fault.ReaderFault.{ReaderFault}
@@ -20,7 +19,7 @@ use Rattle.readers.specs.declared.reader_fault.ReadCause.TheVariants as cause
 use Rattle.readers.specs.declared.seek_from.SeekFrom.TheVariants.{End}
 use Rattle.readers.specs.ReaderFaults.{refused, refused_at, first_of, unless_fault}
 use Rattle.readers.specs.Readers.{shifted_from, sought}
-use Rattle.readers.specs.Moves.{MovedTo}
+use Rattle.readers.specs.Moves.{MovedTo, value_in, HasValue}
 use Rattle.readers.specs.ReadSeek.{item_no, item_bytes, first_refused, places_from, behind, left_at, ItemsRead, end_no, open_no, ReadOrNot, Extracted, place_after, extracted_at}
 use Rattle.readers.proofs.Seeking.{moved_at, moved_on}
 use Rattle.readers.proofs.Items.{given_none, given_some, given_is, item_placed}
@@ -43,13 +42,13 @@ module _ (b : Bytes) (space notes : ℕ) where
 bytes_more : (b : Bytes) (rs : List ByteRange) (i : ℕ) (d : ByteRange) → i < length rs → item_bytes b (take (i + 1) rs) ≡ item_bytes b (take i rs) ++ inside b (get_or rs i d)
 bytes_more b rs i d h = ap (flat_map (inside b)) (take_more rs i d h) ∙ sym (flat_map_more (inside b) [] (take i rs) (get_or rs i d))
 
-places_push : (k : ℕ) (b : Bytes) (rs : List ByteRange) (r : ByteRange) → places_from k b (rs ++ r ∷ []) ≡ places_from k b rs ++ note.Bytes (record { start = k + length (item_bytes b rs); len = length (inside b r) }) ∷ []
+places_push : (k : ℕ) (b : Bytes) (rs : List ByteRange) (r : ByteRange) → places_from k b (rs ++ r ∷ []) ≡ places_from k b rs ++ placed (k + length (item_bytes b rs)) (length (inside b r)) ∷ []
 unfolding places_from
-places_push k b [] r = ap (λ n. note.Bytes (record { start = n; len = length (inside b r) }) ∷ []) (sym (add-zero k))
+places_push k b [] r = ap (λ n. placed n (length (inside b r)) ∷ []) (sym (add-zero k))
 places_push k b (x ∷ rs) r =
-    ap (λ ns. note.Bytes (record { start = k; len = length (inside b x) }) ∷ ns)
+    ap (λ ns. placed k (length (inside b x)) ∷ ns)
     (places_push (k + length (inside b x)) b rs r
-    ∙ ap (λ n. places_from (k + length (inside b x)) b rs ++ note.Bytes (record { start = n; len = length (inside b r) }) ∷ [])
+    ∙ ap (λ n. places_from (k + length (inside b x)) b rs ++ placed n (length (inside b r)) ∷ [])
     (add_assoc k (length (inside b x)) (length (item_bytes b rs)) ∙ ap (λ n. k + n) (sym (length-append (inside b x) (item_bytes b rs)))))
 
 length_places : (k : ℕ) (b : Bytes) (rs : List ByteRange) → length (places_from k b rs) ≡ length rs
@@ -69,9 +68,6 @@ places_none b = refl
 behind_none : (b : Bytes) (p : ℕ) → behind b p [] ≡ p
 unfolding behind
 behind_none b p = refl
-
-abbrev pub value_in : {R : Type 0} → Ghosts R → R → Bytes
-value_in m s = bytes_of (m.value s)
 
 -- i items of the value in s are read, the reader is now s'
 pub record Upto {R : Type 0} (m : Ghosts R) (rs : List ByteRange) (i at : ℕ) (s s' : R) (out out' : Bytes) (notes notes' : List Note) : Type 0 where
@@ -194,9 +190,9 @@ module _ {R : Type 0} (m : Ghosts R) (rs : List ByteRange) (s : R) (out : Bytes)
           ∙ ap (λ (xs : Bytes). paste out 0 xs (at + length p)) (sym (bytes_more b rs i (FromStart 0 None) more))
           ∙ ap (λ (n : ℕ). paste out 0 (item_bytes b (take (i + 1) rs)) (at + n)) (sym is)
 
-      noted_more : (len : ℕ) → len ≡ length (inside b (item i)) → i < length notes → set notes' i (note.Bytes (record { start = at; len = len })) ≡ places_from 0 b (take (i + 1) rs) ++ drop (i + 1) notes
+      noted_more : (len : ℕ) → len ≡ length (inside b (item i)) → i < length notes → set notes' i (placed at len) ≡ places_from 0 b (take (i + 1) rs) ++ drop (i + 1) notes
       noted_more len is h =
-          let x = note.Bytes (record { start = at; len = len }) in
+          let x = placed at len in
           let ns = places_from 0 b (take i rs) in
           let l : length ns ≡ i = length_places 0 b (take i rs) ∙ so_many in
           ap (λ (xs : List Note). set xs i x) (u.noted ∙ ap (λ (xs : List Note). ns ++ xs) (drop_more notes i x h))
@@ -204,8 +200,8 @@ module _ {R : Type 0} (m : Ghosts R) (rs : List ByteRange) (s : R) (out : Bytes)
           ∙ sym (append_assoc ns (x ∷ []) (drop (i + 1) notes))
           ∙ ap (λ (xs : List Note). xs ++ drop (i + 1) notes) (ap (λ (y : Note). ns ++ y ∷ []) here ∙ sym (ap (places_from 0 b) (take_more rs i (FromStart 0 None) more) ∙ places_push 0 b (take i rs) (item i)))
         where
-          here : note.Bytes (record { start = at; len = len }) ≡ note.Bytes (record { start = 0 + length (item_bytes b (take i rs)); len = length (inside b (item i)) })
-          here = ap (λ (n : ℕ). note.Bytes (record { start = at; len = n })) is ∙ ap (λ (n : ℕ). note.Bytes (record { start = n; len = length (inside b (item i)) })) (u.count ∙ sym (zero-add (length (item_bytes b (take i rs)))))
+          here : placed at len ≡ placed (0 + length (item_bytes b (take i rs))) (length (inside b (item i)))
+          here = ap (λ (n : ℕ). placed at n) is ∙ ap (λ (n : ℕ). placed n (length (inside b (item i)))) (u.count ∙ sym (zero-add (length (item_bytes b (take i rs)))))
 
       reached : (size len : ℕ) → size ≡ length b → len ≡ length (inside b (item i)) → unwrap_or (start_of (item i) size) 0 + len ≡ behind b (length b) (take (i + 1) rs)
       reached size len sized is =
@@ -219,7 +215,7 @@ module _ {R : Type 0} (m : Ghosts R) (rs : List ByteRange) (s : R) (out : Bytes)
           → Ok len ≡ unless_fault (item_no (value_in m s') (length out') at (ltb i (length notes')) (item i)) (length (inside (value_in m s') (item i)))
           → out'' ≡ paste out' at (inside (value_in m s') (item i)) (length (inside (value_in m s') (item i)))
           → MovedTo m (unwrap_or (start_of (item i) size) 0 + len) s' s''
-          → Upto m rs (i + 1) (at + len) s s'' out out'' notes (set notes' i (note.Bytes (record { start = at; len = len })))
+          → Upto m rs (i + 1) (at + len) s s'' out out'' notes (set notes' i (placed at len))
       upto-more len size s'' out'' sized answer put moved =
           let none = given_none _ _ _ answer in
           let is : len ≡ length (inside b (item i)) = given_is _ _ _ answer ∙ ap (λ (v : Bytes). length (inside v (item i))) same_value in
@@ -236,8 +232,12 @@ module _ {R : Type 0} (m : Ghosts R) (rs : List ByteRange) (s : R) (out : Bytes)
           }
 
 -- a value that is there is still there
-pub still_there : {R : Type 0} (m : Ghosts R) (s s' : R) → m.value s' ≡ m.value s → m.value s ≡ Some (value_in m s) → m.value s' ≡ Some (value_in m s')
-still_there m s s' e h = e ∙ h ∙ ap (λ (v : Option Bytes). Some (bytes_of v)) (sym e)
+pub still_there : {R : Type 0} (m : Ghosts R) (s s' : R) → m.value s' ≡ m.value s → HasValue m s → HasValue m s'
+still_there m s s' e h =
+    record {
+      there = e ∙ h.there ∙ ap (λ (v : Option Bytes). Some (bytes_of v)) (sym e);
+      small = omega (arith, h.small, ap (λ (v : Option Bytes). length (bytes_of v)) e);
+    }
 
 -- the questions before the items, passed
 opened : (v : Option Bytes) (rs : List ByteRange) (p size : ℕ) → length rs ≤ 64 → Ok size ≡ sought (sized v) p (End (pos 0)) → open_no v rs ≡ None

@@ -4,7 +4,7 @@ use Rattle.keys.specs.Text.{Bytes}
 use Rattle.ranges.specs.Buffers.{fronted}
 use Rattle.ranges.specs.declared.byte_range.ByteRange.{ByteRange}
 use Rattle.extraction.specs.Extracts.{items, notes_from, extract_no}
-use Rattle.extraction.specs.declared.Note.{Note}
+use Rattle.extraction.specs.Notes.{Note}
 use Rattle.storage.specs.Contents.{bytes_of}
 use Rattle.readers.specs.declared.reader_fault.ReaderFault.{ReaderFault}
 use Rattle.readers.specs.ReadSeek.{end_no}

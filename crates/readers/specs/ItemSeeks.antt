@@ -2,7 +2,6 @@
 --   item_seek r                 the seek that reaches its first byte
 --   start_given                 the answer to that seek, by where the item starts
 --   item_left r n p a           where the answer a leaves a reader that was at p, in a value of n bytes
---   indexed_by i a              the answer a, its refusal of the i-th item
 use Rattle.std.specs.Prelude.{ℕ, ◌+◌, ◌^◌, cond, pos, neg_ℤ, Some, None, Ok, Err, Option, Result, nat_lt}
 use Rattle.std.specs.Option.{unwrap_or}
 use Rattle.ranges.specs.Ranges.{start_of}
@@ -12,7 +11,7 @@ use Rattle.readers.specs.declared.reader_fault.ReadCause.TheVariants as cause
 use Rattle.readers.specs.declared.reader_fault.ReaderFault.{ReaderFault}
 use Rattle.readers.specs.declared.seek_from.SeekFrom.{SeekFrom}
 use Rattle.readers.specs.declared.seek_from.SeekFrom.TheVariants.{Start, End}
-use Rattle.readers.specs.ReaderFaults.{refused, refused_at}
+use Rattle.readers.specs.ReaderFaults.{refused}
 
 abbrev pub item_seek : ByteRange → Result SeekFrom ReaderFault
 item_seek (FromStart o l) = Ok (Start o)
@@ -25,7 +24,3 @@ start_given None = Err (refused cause.Seek)
 abbrev pub item_left : ByteRange → ℕ → ℕ → Result ℕ ReaderFault → ℕ
 item_left r n p (Ok len) = unwrap_or (start_of r n) 0 + len
 item_left r n p (Err f) = unwrap_or (start_of r n) p
-
-abbrev pub indexed_by : ℕ → Result ℕ ReaderFault → Result ℕ ReaderFault
-indexed_by i (Ok len) = Ok len
-indexed_by i (Err f) = Err (refused_at i f.cause)

@@ -16,8 +16,7 @@ use Rattle.ranges.specs.Buffers.{fronted}
 use Rattle.ranges.specs.Ranges.{only_if, start_of, inside}
 use Rattle.ranges.specs.declared.byte_range.ByteRange.{ByteRange}
 use Rattle.ranges.specs.declared.byte_range.ByteRange.TheVariants.{FromStart, Suffix}
-use Rattle.extraction.specs.declared.Note.{Note}
-use Rattle.extraction.specs.declared.Note.TheVariants as note
+use Rattle.extraction.specs.Notes.{Note, placed}
 use Rattle.storage.specs.Contents.{bytes_of}
 use Rattle.readers.specs.declared.reader_fault.ReadCause.TheVariants as cause
 use Rattle.readers.specs.declared.reader_fault.ReaderFault.{ReaderFault}
@@ -59,7 +58,7 @@ first_refused b space notes before (r ∷ rs) =
 -- the notes of items that are put end to end from a place on
 unfoldable pub places_from : ℕ → Bytes → List ByteRange → List Note
 places_from at b [] = []
-places_from at b (r ∷ rs) = note.Bytes (record { start = at; len = length (inside b r) }) ∷ places_from (at + length (inside b r)) b rs
+places_from at b (r ∷ rs) = placed at (length (inside b r)) ∷ places_from (at + length (inside b r)) b rs
 
 -- behind the last of the items that were read, or p where there is none
 unfoldable pub behind : Bytes → ℕ → List ByteRange → ℕ

@@ -1,13 +1,12 @@
 //! Extraction of byte ranges through a reader.
-ghost use Rattle.std.specs.Prelude.{◌≡◌, ◌+◌, ◌^◌, ◌<◌, ◌≤◌, [], length, is_ok, if◌then◌else◌, Some};
+ghost use Rattle.std.specs.Prelude.{◌≡◌, ◌≤◌, [], length, is_ok, if◌then◌else◌, Ok};
 ghost use Rattle.std.proofs.Math.Seq.{paste};
 ghost use Rattle.std.specs.Option.{unwrap_or};
 ghost use Rattle.ranges.specs.Ranges.{start_of, inside};
-ghost use Rattle.extraction.specs.declared.Note.TheVariants as note;
-ghost use Rattle.storage.specs.Contents.{bytes_of};
+ghost use Rattle.extraction.specs.Notes.{placed};
 ghost use Rattle.readers.specs.Agreement.{Agrees};
-ghost use Rattle.readers.specs.Moves.{MovedTo};
-ghost use Rattle.readers.specs.ItemSeeks.{item_seek, item_left, start_given, indexed_by};
+ghost use Rattle.readers.specs.Moves.{MovedTo, value_in, HasValue};
+ghost use Rattle.readers.specs.ItemSeeks.{item_seek, item_left, start_given};
 ghost use Rattle.readers.specs.ReadSeek.{read_length, item_no, first_refused, left_at, ItemsRead, Extracted, extracted_at};
 ghost use Rattle.readers.specs.ReaderFaults.{unless_fault};
 
@@ -61,36 +60,27 @@ fn read_items<R: Read + Seek>(
     out: &mut [u8],
     notes: &mut [Note],
 ) -> Result<usize, ReaderFault>
-    requires value { R.Reader.value reader.old ≡ Some (bytes_of (R.Reader.value reader.old)) }
-    requires size { (size ≡ length (bytes_of (R.Reader.value reader.old))) × (size < 2 ^ 63) }
+    requires value { HasValue R.Reader reader.old }
+    requires size { size ≡ length (value_in R.Reader reader.old) }
     requires place { R.Reader.position reader.old ≡ size }
-    ensures read { ItemsRead (bytes_of (R.Reader.value reader.old)) ranges.now (first_refused (bytes_of (R.Reader.value reader.old)) (length out.old) (length notes.old) [] ranges.now) result out.old out.new notes.old notes.new }
-    ensures place { MovedTo R.Reader (left_at (bytes_of (R.Reader.value reader.old)) (first_refused (bytes_of (R.Reader.value reader.old)) (length out.old) (length notes.old) [] ranges.now) ranges.now) reader.old reader.new }
+    ensures read { ItemsRead (value_in R.Reader reader.old) ranges.now (first_refused (value_in R.Reader reader.old) (length out.old) (length notes.old) [] ranges.now) result out.old out.new notes.old notes.new }
+    ensures place { MovedTo R.Reader (left_at (value_in R.Reader reader.old) (first_refused (value_in R.Reader reader.old) (length out.old) (length notes.old) [] ranges.now) ranges.now) reader.old reader.new }
 {
     let mut at = 0;
     for (i, range) in ranges.iter().enumerate() {
-        let len = indexed(read_item(reader, size, *range, out, at, i < notes.len()), i)?;
+        let read = read_item(reader, size, *range, out, at, i < notes.len());
+        let len = read.map_err(|f| f.at_item(i))?;
         notes[i] = bytes_at(at, len);
         at += len;
     }
     Ok(at)
 }
 
-// An answer, its refusal of the item at an index.
-fn indexed(answer: Result<usize, ReaderFault>, index: usize) -> Result<usize, ReaderFault>
-    ensures { result ≡ indexed_by index answer }
-{
-    match answer {
-        Ok(len) => Ok(len),
-        Err(f) => Err(f.at_item(index)),
-    }
-}
-
 // The note of an item's bytes.
 fn bytes_at(start: usize, len: usize) -> Note
-    ensures { result ≡ note.Bytes (record { start = start; len = len }) }
+    ensures { result ≡ placed start len }
 {
-    Note::Bytes(Place { start, len })
+    Ok(Place { start, len })
 }
 
 // Reads an item into the output from `at` on, where it has a note, and answers how many bytes it has.
@@ -102,11 +92,11 @@ fn read_item<R: Read + Seek>(
     at: usize,
     noted: bool,
 ) -> Result<usize, ReaderFault>
-    requires value { R.Reader.value reader.old ≡ Some (bytes_of (R.Reader.value reader.old)) }
-    requires size { (size ≡ length (bytes_of (R.Reader.value reader.old))) × (size < 2 ^ 63) }
+    requires value { HasValue R.Reader reader.old }
+    requires size { size ≡ length (value_in R.Reader reader.old) }
     requires within { at ≤ length out.old }
-    ensures answer { result ≡ unless_fault (item_no (bytes_of (R.Reader.value reader.old)) (length out.old) at noted range) (length (inside (bytes_of (R.Reader.value reader.old)) range)) }
-    ensures output { out.new ≡ (if is_ok result then paste out.old at (inside (bytes_of (R.Reader.value reader.old)) range) (length (inside (bytes_of (R.Reader.value reader.old)) range)) else out.old) }
+    ensures answer { result ≡ unless_fault (item_no (value_in R.Reader reader.old) (length out.old) at noted range) (length (inside (value_in R.Reader reader.old) range)) }
+    ensures output { out.new ≡ (if is_ok result then paste out.old at (inside (value_in R.Reader reader.old) range) (length (inside (value_in R.Reader reader.old) range)) else out.old) }
     ensures place { MovedTo R.Reader (item_left range size (R.Reader.position reader.old) result) reader.old reader.new }
 {
     seek_item(reader, range)?;
@@ -120,10 +110,9 @@ fn read_item<R: Read + Seek>(
 
 // Seeks the first byte of an item.
 fn seek_item<R: Seek>(reader: &mut R, range: ByteRange) -> Result<u64, ReaderFault>
-    requires value { R.Reader.value reader.old ≡ Some (bytes_of (R.Reader.value reader.old)) }
-    requires size { length (bytes_of (R.Reader.value reader.old)) < 2 ^ 63 }
-    ensures answer { result ≡ start_given (start_of range (length (bytes_of (R.Reader.value reader.old)))) }
-    ensures place { MovedTo R.Reader (unwrap_or (start_of range (length (bytes_of (R.Reader.value reader.old)))) (R.Reader.position reader.old)) reader.old reader.new }
+    requires { HasValue R.Reader reader.old }
+    ensures answer { result ≡ start_given (start_of range (length (value_in R.Reader reader.old))) }
+    ensures place { MovedTo R.Reader (unwrap_or (start_of range (length (value_in R.Reader reader.old))) (R.Reader.position reader.old)) reader.old reader.new }
 {
     reader.seek(item_seek(range)?)
 }
@@ -144,8 +133,7 @@ fn item_len(range: ByteRange, size: u64) -> usize
     ensures { result ≡ read_length range size }
 {
     let len = match range {
-        ByteRange::FromStart(offset, None) if offset <= size => size - offset,
-        ByteRange::FromStart(_, None) => size,
+        ByteRange::FromStart(offset, None) => size.checked_sub(offset).unwrap_or(size),
         ByteRange::FromStart(_, Some(length)) | ByteRange::Suffix(length) => length,
     };
     len as usize

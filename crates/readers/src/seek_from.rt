@@ -26,10 +26,10 @@ impl SeekFrom {
         match self {
             SeekFrom::Start(place) => Ok(place),
             SeekFrom::Current(offset) => shift(position, offset),
-            SeekFrom::End(offset) => match size {
-                Some(size) => shift(size, offset),
-                None => Err(ReaderFault::own(ReadCause::Absent)),
-            },
+            SeekFrom::End(offset) => {
+                let size = size.ok_or(ReaderFault::own(ReadCause::Absent))?;
+                shift(size, offset)
+            }
         }
     }
 }
@@ -41,8 +41,8 @@ fn shift(start: u64, offset: i64) -> Result<u64, ReaderFault>
     if start > MAX_SEEK {
         return Err(ReaderFault::own(ReadCause::Seek));
     }
-    match (start as i64).checked_add(offset) {
-        Some(place) if place >= 0 => Ok(place as u64),
+    match start.checked_add_signed(offset) {
+        Some(place) if place <= MAX_SEEK => Ok(place),
         _ => Err(ReaderFault::own(ReadCause::Seek)),
     }
 }

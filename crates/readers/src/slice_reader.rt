@@ -46,7 +46,7 @@ impl<'a> Seek for SliceReader<'a> {
 
 impl<'a> Read for SliceReader<'a> {
     fn read_exact(&mut self, out: &mut [u8]) -> Result<(), ReaderFault> {
-        if out.len() == 0 {
+        if out.is_empty() {
             return Ok(());
         }
         let part = part(self.bytes, self.position, out.len())?;

@@ -38,12 +38,7 @@ impl<S> StorageValueIO<S> {
     pub fn into_inner(self) -> S
         ensures { result ≡ self.storage }
     {
-        let StorageValueIO {
-            storage,
-            key: _,
-            position: _,
-        } = self;
-        storage
+        self.storage
     }
 }
 
@@ -65,7 +60,7 @@ impl<S: ReadableStorageTraits> Seek for StorageValueIO<S> {
 
 impl<S: ReadableStorageTraits> Read for StorageValueIO<S> {
     fn read_exact(&mut self, out: &mut [u8]) -> Result<(), ReaderFault> {
-        if out.len() == 0 {
+        if out.is_empty() {
             return Ok(());
         }
         let Some(n) = get_part(&self.storage, &self.key, self.position, out)? else {

@@ -1,139 +1,105 @@
 //! Calls on keys and prefixes.
-use crate::fields::{bytes_of, cut, write_bytes};
-use crate::outcome::{Outcome, accepted, answered, ordered, refused};
+use crate::fields::{bytes_of, cut, written};
+use crate::outcome::{Failure, Outcome, accepted, answered, ordered};
 use atomic_write::atomic_write::temporary_key;
 use keys::store_key::StoreKey;
 use keys::store_prefix::StorePrefix;
-use order::total_order::TotalOrder;
-use std::alloc::{AllocError, Global};
+use std::alloc::Global;
 
-/// The key that a word stands for.
-fn key_of(word: &[u8], heap: Global) -> Result<Option<StoreKey>, AllocError> {
+/// What is asked of a key.
+#[derive(Clone, Copy)]
+pub enum KeyCall {
+    /// Whether the bytes are one.
+    Validity,
+    Parent,
+    Prefix,
+    /// The temporary key of an export.
+    Temporary,
+    HasPrefix,
+    Order,
+}
+
+/// What is asked of a prefix.
+#[derive(Clone, Copy)]
+pub enum PrefixCall {
+    /// Whether the bytes are one.
+    Validity,
+    Key,
+    Parent,
+    Order,
+}
+
+/// What is made of the bytes that a word stands for.
+fn made<T, E: Drop, F: FnOnce(&[u8]) -> Result<T, E>>(
+    word: &[u8],
+    heap: Global,
+    make: F,
+) -> Result<T, Failure>
+    requires { F.IsAlwaysCallable make }
+{
     let bytes = bytes_of(word, heap)?;
-    match StoreKey::new(bytes.as_slice()) {
-        Ok(key) => Ok(Some(key)),
-        Err(_) => Ok(None),
-    }
+    accepted(make(bytes.as_slice()))
 }
 
-/// The prefix that a word stands for.
-fn prefix_of(word: &[u8], heap: Global) -> Result<Option<StorePrefix>, AllocError> {
-    let bytes = bytes_of(word, heap)?;
-    match StorePrefix::new(bytes.as_slice()) {
-        Ok(prefix) => Ok(Some(prefix)),
-        Err(_) => Ok(None),
-    }
-}
-
-/// A prefix.
-fn prefix(out: &mut Vec<u8>, prefix: &StorePrefix) -> Result<Outcome, AllocError> {
-    write_bytes(out, prefix.as_bytes())?;
-    Ok(Outcome::Answered)
-}
-
-/// A key, or a refusal.
-fn key(out: &mut Vec<u8>, made: Option<StoreKey>) -> Result<Outcome, AllocError> {
-    match made {
-        Some(key) => {
-            write_bytes(out, key.as_bytes())?;
-            Ok(Outcome::Answered)
+impl KeyCall {
+    /// The call of that name.
+    pub fn named(name: &[u8]) -> Option<Self> {
+        match name {
+            b"key" => Some(KeyCall::Validity),
+            b"key_parent" => Some(KeyCall::Parent),
+            b"key_prefix" => Some(KeyCall::Prefix),
+            b"temporary" => Some(KeyCall::Temporary),
+            b"has_prefix" => Some(KeyCall::HasPrefix),
+            b"key_order" => Some(KeyCall::Order),
+            _ => None,
         }
-        None => refused(out),
     }
-}
 
-/// The temporary key of an export.
-fn temporary(key: &StoreKey) -> Option<StoreKey> {
-    match temporary_key(key) {
-        Ok(key) => Some(key),
-        Err(_) => None,
-    }
-}
-
-/// The key of a prefix.
-fn key_from(prefix: &StorePrefix) -> Option<StoreKey> {
-    match StoreKey::from_prefix(prefix) {
-        Ok(key) => Some(key),
-        Err(_) => None,
-    }
-}
-
-/// The answer to a call on a key.
-pub fn answer_key(
-    out: &mut Vec<u8>,
-    call: &[u8],
-    rest: &[u8],
-    heap: Global,
-) -> Result<Outcome, AllocError> {
-    let (first, second) = cut(rest, b' ');
-    let made = key_of(first, heap)?;
-    if call == b"key".as_slice() {
-        return accepted(out, made.is_some());
-    }
-    let Some(first) = made else {
-        return refused(out);
-    };
-    if call == b"key_parent".as_slice() {
-        return prefix(out, &first.parent());
-    }
-    if call == b"key_prefix".as_slice() {
-        return prefix(out, &first.to_prefix());
-    }
-    if call == b"temporary".as_slice() {
-        return key(out, temporary(&first));
-    }
-    answer_pair(out, call, first, second, heap)
-}
-
-/// The answer to a call on a key and another, or a prefix.
-fn answer_pair(
-    out: &mut Vec<u8>,
-    call: &[u8],
-    first: StoreKey,
-    second: &[u8],
-    heap: Global,
-) -> Result<Outcome, AllocError> {
-    if call == b"has_prefix".as_slice() {
-        let Some(prefix) = prefix_of(second, heap)? else {
-            return refused(out);
-        };
-        if first.has_prefix(&prefix) {
-            return answered(out, b"true");
+    /// The port's answer.
+    pub fn answer(self, words: &[u8], heap: Global) -> Outcome {
+        let (first, second) = cut(words, b' ');
+        let first = made(first, heap, StoreKey::new)?;
+        match self {
+            KeyCall::Validity => answered(b"ok", heap),
+            KeyCall::Parent => Ok(written(first.parent().as_bytes(), heap)?),
+            KeyCall::Prefix => Ok(written(first.to_prefix().as_bytes(), heap)?),
+            KeyCall::Temporary => Ok(written(accepted(temporary_key(&first))?.as_bytes(), heap)?),
+            KeyCall::HasPrefix => {
+                if first.has_prefix(&made(second, heap, StorePrefix::new)?) {
+                    answered(b"true", heap)
+                } else {
+                    answered(b"false", heap)
+                }
+            }
+            KeyCall::Order => ordered(first.cmp(&made(second, heap, StoreKey::new)?), heap),
         }
-        return answered(out, b"false");
     }
-    let Some(second) = key_of(second, heap)? else {
-        return refused(out);
-    };
-    ordered(out, first.compare(&second))
 }
 
-/// The answer to a call on a prefix.
-pub fn answer_prefix(
-    out: &mut Vec<u8>,
-    call: &[u8],
-    rest: &[u8],
-    heap: Global,
-) -> Result<Outcome, AllocError> {
-    let (first, second) = cut(rest, b' ');
-    let made = prefix_of(first, heap)?;
-    if call == b"prefix".as_slice() {
-        return accepted(out, made.is_some());
+impl PrefixCall {
+    /// The call of that name.
+    pub fn named(name: &[u8]) -> Option<Self> {
+        match name {
+            b"prefix" => Some(PrefixCall::Validity),
+            b"prefix_key" => Some(PrefixCall::Key),
+            b"prefix_parent" => Some(PrefixCall::Parent),
+            b"prefix_order" => Some(PrefixCall::Order),
+            _ => None,
+        }
     }
-    let Some(first) = made else {
-        return refused(out);
-    };
-    if call == b"prefix_key".as_slice() {
-        return key(out, key_from(&first));
+
+    /// The port's answer.
+    pub fn answer(self, words: &[u8], heap: Global) -> Outcome {
+        let (first, second) = cut(words, b' ');
+        let first = made(first, heap, StorePrefix::new)?;
+        match self {
+            PrefixCall::Validity => answered(b"ok", heap),
+            PrefixCall::Key => Ok(written(accepted(StoreKey::try_from(&first))?.as_bytes(), heap)?),
+            PrefixCall::Parent => match first.parent() {
+                Some(parent) => Ok(written(parent.as_bytes(), heap)?),
+                None => answered(b"none", heap),
+            },
+            PrefixCall::Order => ordered(first.cmp(&made(second, heap, StorePrefix::new)?), heap),
+        }
     }
-    if call == b"prefix_parent".as_slice() {
-        return match first.parent() {
-            Some(parent) => prefix(out, &parent),
-            None => answered(out, b"none"),
-        };
-    }
-    let Some(second) = prefix_of(second, heap)? else {
-        return refused(out);
-    };
-    ordered(out, first.compare(&second))
 }

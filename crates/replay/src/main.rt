@@ -7,15 +7,34 @@ mod outcome;
 mod range_calls;
 
 use fields::{cut, cut_answer};
-use key_calls::{answer_key, answer_prefix};
-use outcome::Outcome;
-use range_calls::{answer_range, answer_values};
+use key_calls::{KeyCall, PrefixCall};
+use outcome::{Failure, Outcome};
+use range_calls::{RangeCall, ValueCall};
 use std::alloc::{AllocError, Global};
 use std::io;
 use std::io::{BufRead, BufReader, Write};
 
+/// What comes of a line.
+#[derive(Drop)]
+enum Verdict<'a> {
+    /// The port answers as the original does.
+    Agrees,
+    /// It answers otherwise.
+    Differs {
+        call: &'a [u8],
+        expected: &'a [u8],
+        got: Vec<u8>,
+    },
+    /// The port differs on purpose.
+    OnPurpose,
+    /// A reading by seeks, which is not compared.
+    BySeeks,
+    /// A line or a call of another kind.
+    Unknown,
+}
+
 /// How many lines were compared, how many of them differ, and how many were left out, by reason.
-#[derive(Clone, Copy)]
+#[derive(Clone, Copy, Default)]
 struct Tally {
     compared: u64,
     differ: u64,
@@ -24,117 +43,121 @@ struct Tally {
     unknown: u64,
 }
 
-/// True if the words are one of four.
-fn one_of(word: &[u8], a: &[u8], b: &[u8], c: &[u8], d: &[u8]) -> bool {
-    word == a || word == b || word == c || word == d
+/// One more.
+fn add_one(count: &mut u64) {
+    *count = count.saturating_add(1);
+}
+
+impl Tally {
+    fn count(&mut self, verdict: &Verdict) {
+        match verdict {
+            Verdict::Agrees => add_one(&mut self.compared),
+            Verdict::Differs { .. } => {
+                add_one(&mut self.compared);
+                add_one(&mut self.differ);
+            }
+            Verdict::OnPurpose => add_one(&mut self.on_purpose),
+            Verdict::BySeeks => add_one(&mut self.by_seeks),
+            Verdict::Unknown => add_one(&mut self.unknown),
+        }
+    }
 }
 
 /// The port's answer to a call.
-fn answer(out: &mut Vec<u8>, text: &[u8], heap: Global) -> Result<Outcome, AllocError> {
-    let (call, rest) = cut(text, b' ');
-    if one_of(call, b"key", b"key_parent", b"key_prefix", b"temporary")
-        || call == b"has_prefix".as_slice()
-        || call == b"key_order".as_slice()
-    {
-        return answer_key(out, call, rest, heap);
+fn answer(text: &[u8], heap: Global) -> Outcome {
+    let (name, words) = cut(text, b' ');
+    if let Some(call) = KeyCall::named(name) {
+        return call.answer(words, heap);
     }
-    if one_of(
+    if let Some(call) = PrefixCall::named(name) {
+        return call.answer(words, heap);
+    }
+    if let Some(call) = RangeCall::named(name) {
+        return call.answer(words, heap);
+    }
+    if let Some(call) = ValueCall::named(name) {
+        return call.answer(words, heap);
+    }
+    Err(Failure::Unknown)
+}
+
+/// Compares the port's answer with the expected one: where the original panics, the port refuses.
+fn compare<'a>(
+    call: &'a [u8],
+    expected: &'a [u8],
+    heap: Global,
+) -> Result<Verdict<'a>, AllocError> {
+    let (got, panics) = match answer(call, heap) {
+        Ok(words) => (words, false),
+        Err(Failure::Refused(refusal)) => {
+            let words = format!(in heap; "{refusal}")?;
+            (
+                Vec::from_slice(heap, words.as_bytes())?,
+                expected == b"panic".as_slice(),
+            )
+        }
+        Err(Failure::Unknown) => return Ok(Verdict::Unknown),
+        Err(Failure::Memory(error)) => return Err(error),
+    };
+    if panics || got.as_slice() == expected {
+        return Ok(Verdict::Agrees);
+    }
+    Ok(Verdict::Differs {
         call,
-        b"prefix",
-        b"prefix_parent",
-        b"prefix_order",
-        b"prefix_key",
-    ) {
-        return answer_prefix(out, call, rest, heap);
-    }
-    if one_of(call, b"new", b"start", b"end", b"length") || call == b"range_order".as_slice() {
-        return answer_range(out, call, rest, heap);
-    }
-    if call == b"extract".as_slice() || call == b"concat".as_slice() {
-        return answer_values(out, call, rest, heap);
-    }
-    Ok(Outcome::Unknown)
+        expected,
+        got,
+    })
 }
 
-/// True if the port's outcome is the expected one: where the original panics, the port refuses.
-fn agrees(outcome: Outcome, got: &[u8], expected: &[u8]) -> bool {
-    match outcome {
-        Outcome::Refused => expected == b"panic".as_slice() || got == expected,
-        _ => got == expected,
+/// What comes of a line.
+fn replay(line: &[u8], heap: Global) -> Result<Verdict<'_>, AllocError> {
+    let Some((call, expected)) = cut_answer(line) else {
+        return Ok(Verdict::Unknown);
+    };
+    let (name, _) = cut(call, b' ');
+    if name.ends_with(b"_crate") {
+        return Ok(Verdict::OnPurpose);
     }
+    if name == b"read_seek".as_slice() {
+        return Ok(Verdict::BySeeks);
+    }
+    compare(call, expected, heap)
 }
 
-/// Writes the line for a difference.
-fn write_difference(
-    out: &mut Vec<u8>,
+/// Prints a difference.
+fn print_difference(
+    rt: &HostRuntime,
     number: u64,
     call: &[u8],
     expected: &[u8],
     got: &[u8],
-    heap: Global,
-) -> Result<(), AllocError> {
-    let place = format!(in heap; "line {number}: ")?;
-    out.extend_from_slice(place.as_bytes())?;
-    out.extend_from_slice(call)?;
-    out.extend_from_slice(b": expected ")?;
-    out.extend_from_slice(expected)?;
-    out.extend_from_slice(b", got ")?;
-    out.extend_from_slice(got)?;
-    out.push(b'\n')?;
-    Ok(())
-}
-
-/// Compares a line, and writes the difference if there is one.
-fn replay(
-    out: &mut Vec<u8>,
-    tally: &mut Tally,
-    number: u64,
-    line: &[u8],
-    heap: Global,
-) -> Result<(), AllocError> {
-    let Some((call, expected)) = cut_answer(line) else {
-        tally.unknown = tally.unknown.saturating_add(1);
-        return Ok(());
-    };
-    let (name, _) = cut(call, b' ');
-    if name.ends_with(b"_crate") {
-        tally.on_purpose = tally.on_purpose.saturating_add(1);
-        return Ok(());
-    }
-    if name == b"read_seek".as_slice() {
-        tally.by_seeks = tally.by_seeks.saturating_add(1);
-        return Ok(());
-    }
-    let mut got = Vec::new(heap);
-    let outcome = answer(&mut got, call, heap)?;
-    if let Outcome::Unknown = outcome {
-        tally.unknown = tally.unknown.saturating_add(1);
-        return Ok(());
-    }
-    tally.compared = tally.compared.saturating_add(1);
-    if !agrees(outcome, got.as_slice(), expected) {
-        tally.differ = tally.differ.saturating_add(1);
-        write_difference(out, number, call, expected, got.as_slice(), heap)?;
-    }
-    Ok(())
+) -> io::Result<()> {
+    print!(rt; "line {number}: ")?;
+    rt.stdout().write_all(call)?;
+    rt.stdout().write_all(b": expected ")?;
+    rt.stdout().write_all(expected)?;
+    rt.stdout().write_all(b", got ")?;
+    rt.stdout().write_all(got)?;
+    rt.stdout().write_all(b"\n")
 }
 
 fn main(rt: HostRuntime) -> io::Result<()> {
     let heap = rt.alloc();
-    let mut tally = Tally {
-        compared: 0,
-        differ: 0,
-        on_purpose: 0,
-        by_seeks: 0,
-        unknown: 0,
-    };
+    let mut tally = Tally::default();
     let mut number: u64 = 0;
     for line in BufReader::new(heap, rt.stdin())?.lines(heap) {
         let line = line?;
         number = number.saturating_add(1);
-        let mut out = Vec::new(heap);
-        replay(&mut out, &mut tally, number, line.as_bytes(), heap)?;
-        rt.stdout().write_all(out.as_slice())?;
+        let verdict = replay(line.as_bytes(), heap)?;
+        tally.count(&verdict);
+        if let Verdict::Differs {
+            call,
+            expected,
+            got,
+        } = &verdict
+        {
+            print_difference(&rt, number, call, expected, got.as_slice())?;
+        }
     }
     let Tally {
         compared,

@@ -1,43 +1,94 @@
-//! What comes of a line.
-use std::alloc::AllocError;
+//! What comes of a call.
+use extraction::ExtractError;
+use ranges::byte_range::{ByteRange, InvalidByteRangeError};
+use std::alloc::{AllocError, Global};
 use std::cmp::Ordering;
+use std::fmt;
 
-/// What the port makes of a call. The text of an answer or of a refusal is written beside it.
+/// How the port refuses a call.
 #[derive(Clone, Copy)]
-pub enum Outcome {
-    /// It answers.
-    Answered,
-    /// It refuses.
-    Refused,
-    /// The call is none that is compared.
+pub enum Refusal {
+    Plain,
+    /// A range of an extraction does not fit.
+    Unfit(InvalidByteRangeError),
+}
+
+/// Why there is no answer to a call.
+#[derive(Drop)]
+pub enum Failure {
+    /// The port refuses it.
+    Refused(Refusal),
+    /// It is none that is compared.
     Unknown,
+    /// There is no memory for the answer.
+    Memory(AllocError),
+}
+
+/// The words of the port's answer, or why there is none.
+pub type Outcome = Result<Vec<u8>, Failure>;
+
+/// A range as a vector has it.
+#[derive(Clone, Copy)]
+pub struct ShownRange(pub ByteRange);
+
+impl fmt::Display for ShownRange {
+    fn fmt<W: fmt::Write>(&self, f: &mut fmt::Formatter<W>) -> fmt::Result {
+        match self.0 {
+            ByteRange::FromStart(offset, Some(length)) => write!(f, "f:{offset}:{length}"),
+            ByteRange::FromStart(offset, None) => write!(f, "f:{offset}:-"),
+            ByteRange::Suffix(length) => write!(f, "s:{length}"),
+        }
+    }
+}
+
+impl fmt::Display for Refusal {
+    fn fmt<W: fmt::Write>(&self, f: &mut fmt::Formatter<W>) -> fmt::Result {
+        match *self {
+            Refusal::Plain => f.write_str("refused"),
+            Refusal::Unfit(InvalidByteRangeError { range, size }) => {
+                let range = ShownRange(range);
+                write!(f, "fault {range} {size}")
+            }
+        }
+    }
+}
+
+impl From<AllocError> for Failure {
+    fn from(error: AllocError) -> Self {
+        Failure::Memory(error)
+    }
+}
+
+impl From<ExtractError> for Failure {
+    fn from(error: ExtractError) -> Self {
+        match error {
+            ExtractError::Unfit(_, unfit) => Failure::Refused(Refusal::Unfit(unfit)),
+            _ => Failure::Refused(Refusal::Plain),
+        }
+    }
+}
+
+/// What was made, or a refusal.
+pub fn accepted<T, E: Drop>(made: Result<T, E>) -> Result<T, Failure> {
+    made.ok().ok_or(Failure::Refused(Refusal::Plain))
 }
 
 /// An answer of these words.
-pub fn answered(out: &mut Vec<u8>, words: &[u8]) -> Result<Outcome, AllocError> {
-    out.extend_from_slice(words)?;
-    Ok(Outcome::Answered)
+pub fn answered(words: &[u8], heap: Global) -> Outcome {
+    Ok(Vec::from_slice(heap, words)?)
 }
 
-/// A refusal.
-pub fn refused(out: &mut Vec<u8>) -> Result<Outcome, AllocError> {
-    out.extend_from_slice(b"refused")?;
-    Ok(Outcome::Refused)
-}
-
-/// Whether a value could be made.
-pub fn accepted(out: &mut Vec<u8>, made: bool) -> Result<Outcome, AllocError> {
-    if made {
-        return answered(out, b"ok");
-    }
-    refused(out)
+/// An answer that is shown.
+pub fn shown<D: fmt::Display + Drop>(answer: D, heap: Global) -> Outcome {
+    let text = format!(in heap; "{answer}")?;
+    answered(text.as_bytes(), heap)
 }
 
 /// An order.
-pub fn ordered(out: &mut Vec<u8>, order: Ordering) -> Result<Outcome, AllocError> {
+pub fn ordered(order: Ordering, heap: Global) -> Outcome {
     match order {
-        Ordering::Less => answered(out, b"less"),
-        Ordering::Equal => answered(out, b"equal"),
-        Ordering::Greater => answered(out, b"greater"),
+        Ordering::Less => answered(b"less", heap),
+        Ordering::Equal => answered(b"equal", heap),
+        Ordering::Greater => answered(b"greater", heap),
     }
 }

@@ -1,10 +1,29 @@
 //! Calls on byte ranges, and extractions.
-use crate::fields::{bytes_of, cut, number_of, write_bytes};
-use crate::outcome::{Outcome, ordered, refused};
-use extraction::{ExtractError, Note, Place, extract_byte_ranges, extract_byte_ranges_concat};
-use order::total_order::TotalOrder;
+use crate::fields::{bytes_of, cut, number_of, write_bytes, written};
+use crate::outcome::{Failure, Outcome, Refusal, ShownRange, accepted, ordered, shown};
+use extraction::{Note, Place, extract_byte_ranges, extract_byte_ranges_concat};
 use ranges::byte_range::{Bound, ByteRange, InvalidByteRangeError};
 use std::alloc::{AllocError, Global};
+
+/// What is asked of a range.
+#[derive(Clone, Copy)]
+pub enum RangeCall {
+    /// The range of two bounds.
+    New,
+    Start,
+    End,
+    Length,
+    Order,
+}
+
+/// What is asked of a value.
+#[derive(Clone, Copy)]
+pub enum ValueCall {
+    /// The bytes of ranges, each apart.
+    Extract,
+    /// The bytes of ranges, end to end.
+    Concat,
+}
 
 /// The range that a word stands for.
 fn range_of(word: &[u8]) -> Option<ByteRange> {
@@ -14,198 +33,132 @@ fn range_of(word: &[u8]) -> Option<ByteRange> {
     }
     let (offset, length) = cut(rest, b':');
     let offset = number_of(offset)?;
-    if length == b"-".as_slice() {
-        return Some(ByteRange::FromStart(offset, None));
+    match length {
+        b"-" => Some(ByteRange::FromStart(offset, None)),
+        _ => Some(ByteRange::FromStart(offset, Some(number_of(length)?))),
     }
-    Some(ByteRange::FromStart(offset, Some(number_of(length)?)))
 }
 
 /// The bound that a word stands for.
-fn bound_of(word: &[u8]) -> Option<Bound> {
+fn bound_of(word: &[u8]) -> Option<Bound<u64>> {
     let (kind, rest) = cut(word, b':');
-    if kind == b"u".as_slice() {
-        return Some(Bound::Unbounded);
+    match kind {
+        b"u" => Some(Bound::Unbounded),
+        b"i" => number_of(rest).map(Bound::Included),
+        _ => number_of(rest).map(Bound::Excluded),
     }
-    let n = number_of(rest)?;
-    if kind == b"i".as_slice() {
-        return Some(Bound::Included(n));
-    }
-    Some(Bound::Excluded(n))
 }
 
 /// The ranges of a list; those that can't be read are left out.
 fn ranges_of(list: &[u8], heap: Global) -> Result<Vec<ByteRange>, AllocError> {
-    let mut ranges = Vec::new(heap);
-    let mut rest = list;
-    for _ in 0..list.len() {
-        let (word, more) = cut(rest, b',');
-        if let Some(range) = range_of(word) {
-            ranges.push(range)?;
+    list.split(|b| *b == b',')
+        .filter_map(range_of)
+        .collect(heap)
+}
+
+/// A number of a range in a value of a size.
+fn measured<F: FnOnce(&ByteRange, u64) -> Result<u64, InvalidByteRangeError>>(
+    range: &[u8],
+    size: &[u8],
+    heap: Global,
+    measure: F,
+) -> Outcome
+    requires { F.IsAlwaysCallable measure }
+{
+    let range = range_of(range).ok_or(Failure::Unknown)?;
+    let size = number_of(size).ok_or(Failure::Unknown)?;
+    shown(accepted(measure(&range, size))?, heap)
+}
+
+impl RangeCall {
+    /// The call of that name.
+    pub fn named(name: &[u8]) -> Option<Self> {
+        match name {
+            b"new" => Some(RangeCall::New),
+            b"start" => Some(RangeCall::Start),
+            b"end" => Some(RangeCall::End),
+            b"length" => Some(RangeCall::Length),
+            b"range_order" => Some(RangeCall::Order),
+            _ => None,
         }
-        rest = more;
     }
-    Ok(ranges)
-}
 
-/// Writes a range.
-fn write_range(out: &mut Vec<u8>, range: ByteRange, heap: Global) -> Result<(), AllocError> {
-    let text = match range {
-        ByteRange::FromStart(offset, Some(length)) => format!(in heap; "f:{offset}:{length}")?,
-        ByteRange::FromStart(offset, None) => format!(in heap; "f:{offset}:-")?,
-        ByteRange::Suffix(length) => format!(in heap; "s:{length}")?,
-    };
-    out.extend_from_slice(text.as_bytes())
-}
-
-/// A number, or a refusal.
-fn number(
-    out: &mut Vec<u8>,
-    got: Result<u64, InvalidByteRangeError>,
-    heap: Global,
-) -> Result<Outcome, AllocError> {
-    let Ok(n) = got else {
-        return refused(out);
-    };
-    let text = format!(in heap; "{n}")?;
-    out.extend_from_slice(text.as_bytes())?;
-    Ok(Outcome::Answered)
-}
-
-/// The range of two bounds.
-fn answer_new(
-    out: &mut Vec<u8>,
-    first: &[u8],
-    second: &[u8],
-    heap: Global,
-) -> Result<Outcome, AllocError> {
-    let Some(start) = bound_of(first) else {
-        return Ok(Outcome::Unknown);
-    };
-    let Some(end) = bound_of(second) else {
-        return Ok(Outcome::Unknown);
-    };
-    let Ok(range) = ByteRange::new(start, end) else {
-        return refused(out);
-    };
-    write_range(out, range, heap)?;
-    Ok(Outcome::Answered)
-}
-
-/// The answer to a call on a range.
-pub fn answer_range(
-    out: &mut Vec<u8>,
-    call: &[u8],
-    rest: &[u8],
-    heap: Global,
-) -> Result<Outcome, AllocError> {
-    let (first, second) = cut(rest, b' ');
-    if call == b"new".as_slice() {
-        return answer_new(out, first, second, heap);
+    /// The port's answer.
+    pub fn answer(self, words: &[u8], heap: Global) -> Outcome {
+        let (first, second) = cut(words, b' ');
+        match self {
+            RangeCall::New => {
+                let start = bound_of(first).ok_or(Failure::Unknown)?;
+                let end = bound_of(second).ok_or(Failure::Unknown)?;
+                shown(ShownRange(accepted(ByteRange::new(start, end))?), heap)
+            }
+            RangeCall::Start => measured(first, second, heap, ByteRange::start),
+            RangeCall::End => measured(first, second, heap, ByteRange::end),
+            RangeCall::Length => measured(first, second, heap, ByteRange::length),
+            RangeCall::Order => {
+                let range = range_of(first).ok_or(Failure::Unknown)?;
+                let other = range_of(second).ok_or(Failure::Unknown)?;
+                ordered(range.cmp(&other), heap)
+            }
+        }
     }
-    let Some(range) = range_of(first) else {
-        return Ok(Outcome::Unknown);
-    };
-    if call == b"range_order".as_slice() {
-        let Some(other) = range_of(second) else {
-            return Ok(Outcome::Unknown);
-        };
-        return ordered(out, range.compare(&other));
-    }
-    let Some(size) = number_of(second) else {
-        return Ok(Outcome::Unknown);
-    };
-    if call == b"start".as_slice() {
-        return number(out, range.start(size), heap);
-    }
-    if call == b"end".as_slice() {
-        return number(out, range.end(size), heap);
-    }
-    number(out, range.length(size), heap)
 }
 
-/// The refusal of an extraction.
-fn write_refusal(
-    out: &mut Vec<u8>,
-    error: ExtractError,
-    heap: Global,
-) -> Result<Outcome, AllocError> {
-    let ExtractError::Unfit(_, fault) = error else {
-        return refused(out);
-    };
-    out.extend_from_slice(b"fault ")?;
-    write_range(out, fault.range, heap)?;
-    let size = fault.size;
-    let text = format!(in heap; " {size}")?;
-    out.extend_from_slice(text.as_bytes())?;
-    Ok(Outcome::Refused)
+impl ValueCall {
+    /// The call of that name.
+    pub fn named(name: &[u8]) -> Option<Self> {
+        match name {
+            b"extract" => Some(ValueCall::Extract),
+            b"concat" => Some(ValueCall::Concat),
+            _ => None,
+        }
+    }
+
+    /// The port's answer.
+    pub fn answer(self, words: &[u8], heap: Global) -> Outcome {
+        let (value, list) = cut(words, b' ');
+        let value = bytes_of(value, heap)?;
+        let ranges = ranges_of(list, heap)?;
+        match self {
+            ValueCall::Extract => extract(value.as_slice(), ranges.as_slice(), heap),
+            ValueCall::Concat => concat(value.as_slice(), ranges.as_slice(), heap),
+        }
+    }
 }
 
-/// Writes the items that notes place in a buffer.
-fn write_items(out: &mut Vec<u8>, buffer: &[u8], notes: &[Note]) -> Result<(), AllocError> {
-    if notes.len() == 0 {
+/// The items that notes place in a buffer, as they are written.
+fn items(buffer: &[u8], notes: &[Note], heap: Global) -> Result<Vec<u8>, AllocError> {
+    let mut out = Vec::new(heap);
+    if notes.is_empty() {
         out.push(b'.')?;
     }
     for (i, note) in notes.iter().enumerate() {
         if i > 0 {
             out.push(b',')?;
         }
-        if let Note::Bytes(place) = note {
-            let Place { start, len } = *place;
+        if let Ok(Place { start, len }) = *note {
             if start <= buffer.len() && len <= buffer.len() - start {
-                write_bytes(out, &buffer[start..start + len])?;
+                write_bytes(&mut out, &buffer[start..start + len])?;
             }
         }
     }
-    Ok(())
+    Ok(out)
 }
 
 /// The answer to an extraction.
-pub fn answer_values(
-    out: &mut Vec<u8>,
-    call: &[u8],
-    rest: &[u8],
-    heap: Global,
-) -> Result<Outcome, AllocError> {
-    let (value, list) = cut(rest, b' ');
-    let value = bytes_of(value, heap)?;
-    let ranges = ranges_of(list, heap)?;
+fn extract(value: &[u8], ranges: &[ByteRange], heap: Global) -> Outcome {
     let mut buffer = vec![in heap; 0u8; value.len().saturating_mul(ranges.len())]?;
-    if call == b"concat".as_slice() {
-        return concat(
-            out,
-            value.as_slice(),
-            ranges.as_slice(),
-            buffer.as_mut_slice(),
-            heap,
-        );
-    }
-    let mut notes = vec![in heap; Note::Bytes(Place { start: 0, len: 0 }); ranges.len()]?;
-    if let Err(error) = extract_byte_ranges(
-        value.as_slice(),
-        ranges.as_slice(),
-        buffer.as_mut_slice(),
-        notes.as_mut_slice(),
-    ) {
-        return write_refusal(out, error, heap);
-    }
-    write_items(out, buffer.as_slice(), notes.as_slice())?;
-    Ok(Outcome::Answered)
+    let mut notes = vec![in heap; Ok(Place { start: 0, len: 0 }); ranges.len()]?;
+    extract_byte_ranges(value, ranges, buffer.as_mut_slice(), notes.as_mut_slice())?;
+    Ok(items(buffer.as_slice(), notes.as_slice(), heap)?)
 }
 
 /// The answer to an extraction without notes.
-fn concat(
-    out: &mut Vec<u8>,
-    value: &[u8],
-    ranges: &[ByteRange],
-    buffer: &mut [u8],
-    heap: Global,
-) -> Result<Outcome, AllocError> {
-    match extract_byte_ranges_concat(value, ranges, buffer) {
-        Ok(n) if n <= buffer.len() => {
-            write_bytes(out, &buffer[0..n])?;
-            Ok(Outcome::Answered)
-        }
-        Ok(_) => refused(out),
-        Err(error) => write_refusal(out, error, heap),
+fn concat(value: &[u8], ranges: &[ByteRange], heap: Global) -> Outcome {
+    let mut buffer = vec![in heap; 0u8; value.len().saturating_mul(ranges.len())]?;
+    let n = extract_byte_ranges_concat(value, ranges, buffer.as_mut_slice())?;
+    match buffer.as_slice().get(..n) {
+        Some(bytes) => Ok(written(bytes, heap)?),
+        None => Err(Failure::Refused(Refusal::Plain)),
     }
 }

@@ -10,53 +10,48 @@ use std::test::Fail;
 
 /// Nine writes: an export of a, one of b, one of a patch on a, an erasure of b, an export of c; then power-on, sizes and a listing.
 fn mixed(heap: Global) -> Result<Vec<Call>, AllocError> {
-    let mut calls = Vec::new(heap);
-    calls.push(set(b"a", b"one", heap)?)?;
-    calls.push(set(b"b", b"two", heap)?)?;
-    let mut patches = Vec::new(heap);
-    patches.push(Patch {
+    let patch = Patch {
         offset: 3,
         start: 0,
         len: 1,
-    })?;
-    let mut source = Vec::new(heap);
-    source.extend_from_slice(b"s")?;
-    calls.push(Call::SetPartialMany(key(b"a"), patches, source, 4))?;
-    calls.push(Call::Erase(key(b"b")))?;
-    calls.push(set(b"c", b"three", heap)?)?;
-    calls.push(Call::PowerOn)?;
-    calls.push(Call::SizeKey(key(b"a")))?;
-    calls.push(Call::SizeKey(key(b"b")))?;
-    calls.push(Call::SizeKey(key(b"c")))?;
-    calls.push(Call::List(4))?;
-    Ok(calls)
+    };
+    let patches = vec![in heap; patch]?;
+    let source = Vec::from_slice(heap, b"s")?;
+    Ok(vec![in heap;
+        set(b"a", b"one", heap)?,
+        set(b"b", b"two", heap)?,
+        Call::SetPartialMany(key(b"a"), patches, source, 4),
+        Call::Erase(key(b"b")),
+        set(b"c", b"three", heap)?,
+        Call::PowerOn,
+        Call::SizeKey(key(b"a")),
+        Call::SizeKey(key(b"b")),
+        Call::SizeKey(key(b"c")),
+        Call::List(4),
+    ]?)
 }
 
-/// The length that the i-th answer tells, 0 for an absent label.
-fn size(answers: &[Answer], i: usize) -> u64 {
-    if i >= answers.len() {
-        return 99;
-    }
-    match &answers[i] {
-        Answer::Size(Some(n)) => *n,
-        Answer::Size(None) => 0,
-        _ => 99,
+/// The length that the i-th answer, of a size, tells; none in it for an absent label.
+fn size(answers: &[Answer], i: usize) -> Option<Option<u64>> {
+    match answers.get(i) {
+        Some(Answer::Size(n)) => Some(*n),
+        _ => None,
     }
 }
 
 /// What is stored where the power fails after `cut` writes: the lengths of a, b and c, and how many keys there are.
-fn left(cut: u64) -> (u64, u64, u64, usize) {
+fn left(cut: u64) -> (Option<u64>, Option<u64>, Option<u64>, usize) {
     match cut {
-        0 => (0, 0, 0, 0),
-        1 => (0, 0, 0, 1),
-        2 => (3, 0, 0, 1),
-        3 => (3, 0, 0, 2),
-        4 => (3, 3, 0, 2),
-        5 => (3, 3, 0, 3),
-        6 => (4, 3, 0, 2),
-        7 => (4, 0, 0, 1),
-        8 => (4, 0, 0, 2),
-        _ => (4, 0, 5, 2),
+        0 => (None, None, None, 0),
+        1 => (None, None, None, 1),
+        2 => (Some(3), None, None, 1),
+        3 => (Some(3), None, None, 2),
+        4 => (Some(3), Some(3), None, 2),
+        5 => (Some(3), Some(3), None, 3),
+        6 => (Some(4), Some(3), None, 2),
+        7 => (Some(4), None, None, 1),
+        8 => (Some(4), None, None, 2),
+        _ => (Some(4), None, Some(5), 2),
     }
 }
 
@@ -70,16 +65,12 @@ fn the_power_fails_at_every_write(rt: HostRuntime) -> Result<(), Fail> {
         let record = run(&mut exports, calls.as_slice(), heap);
         drop(exports.into_inner().into_inner());
         let answers = record.answers.as_slice();
-        assert!(rt; record.whole);
-        assert_eq!(rt;
-            (
-                size(answers, 6),
-                size(answers, 7),
-                size(answers, 8),
-                listed(answers, 9),
-            ),
-            left(cut)
-        );
+        assert!(rt; record.ended.is_ok());
+        let (a, b, c, keys) = left(cut);
+        assert_eq!(rt; size(answers, 6), Some(a));
+        assert_eq!(rt; size(answers, 7), Some(b));
+        assert_eq!(rt; size(answers, 8), Some(c));
+        assert_eq!(rt; listed(answers, 9), Some(keys));
     }
     Ok(())
 }

@@ -1,10 +1,8 @@
 -- The adapter's contracts, as what a call owes to a run.
-use Rattle.std.proofs.Common.{◌≡◌, ℕ, Bool, true, false, List, Some, None, Ok, Err, Option, Result, sym, refl, ap, ◌∙◌, subst}
+use Rattle.std.proofs.Common.{◌≡◌, ℕ, Bool, true, false, List, [], replicate, Some, None, Ok, Err, Option, Result, sym, refl, ap, ◌∙◌, subst}
 use Rattle.std.proofs.lemmas.List.{length-replicate}
 use Rattle.std.specs.Option.{option_map}
 use Rattle.keys.specs.Text.{Bytes}
-use Rattle.ranges.specs.declared.byte_range.ByteRange.{ByteRange}
-use Rattle.extraction.specs.declared.Note.{Note}
 use Rattle.keys.specs.declared.row.Row.{Row}
 use Rattle.keys.specs.Rows.{row_text, RowOf}
 use Rattle.patches.specs.Patches.{laid_all}
@@ -17,16 +15,15 @@ use Rattle.storage.specs.Erasures as rows
 use Rattle.storage.specs.Faults.{raised}
 use Rattle.storage.specs.Writes.{Write, erase, after, Verdict}
 use Rattle.storage.specs.Stores.{Wrote}
-use Rattle.storage.specs.Readings.{ValueRead, RangeRead, RangesRead}
 use Rattle.storage.specs.declared.fault.Fault.{Fault}
 use Rattle.storage.specs.declared.storage_sync.ReadableStorageTraits.{Ghosts}
 use Rattle.atomic_write.specs.Adapters.{over}
 use Rattle.atomic_write.specs.Exports.{Exported, patch_export_no, LaidAndExported, PatchExported, raised_verdict}
 use Rattle.atomic_write.specs.declared.atomic_write.AtomicWriteStorageAdapter.{AtomicWriteStorageAdapter}
 use Rattle.atomic_write.specs.Exports as export
-use Rattle.runs.specs.Events.{Reply, wrote, patched, bytes_read, ranges_read, rows_listed, dir_listed}
+use Rattle.runs.specs.Events.{Reply, wrote, patched, rows_listed, dir_listed}
 use Rattle.runs.specs.Performed.{ExportLeft, refused, unbegun, unfinished, finished, PatchLeft, asked, tried, EraseLeft, erased, kept, RowNo, no_key, below, ManyLeft, all, stopped}
-use Rattle.runs.specs.Readings.{zeros, ReadInto, RowsInto}
+use Rattle.runs.specs.Readings.{zeros, blank_rows, RowsInto}
 use Rattle.runs.proofs.Steps.{none_some}
 
 pub export_left : {S : Type 0} {m : Ghosts S} {k v : Bytes} {s s' : S} {r : Result (Unit {0}) Fault} → Exported m k v s s' r → ExportLeft k v (m.contents s) (m.contents s') r
@@ -82,19 +79,7 @@ module _ {S : Type 0} (m : Ghosts S) (k d : Bytes) (ps : List Patch) (s s' : S) 
       let x = subst (λ (y : Bytes). PatchExported m k d ps s s' y work' r) e h in
       laid_left (patch_export_no k d ps old n) refl q (subst (λ (y : ℕ). LaidAndExported (patch_export_no k d ps old y) m k (laid_all d ps old) s s' (zeros n) work' r) (length-replicate n 0) x)
 
--- a value, ranges, or rows, put into the buffers of a call
-
-pub value_read_lem : {n : ℕ} {v : Option Bytes} {r : Result (Option ℕ) Fault} {out shown : Bytes} (blank made : Bytes) → blank ≡ made → shown ≡ out → ValueRead n v r blank out → ReadInto (λ r out. ValueRead n v r made out) (bytes_read r shown)
-value_read_lem {n} {v} {r} {out} {shown} blank made e s h =
-    (r, out, ap (bytes_read r) s, subst (λ (x : Bytes). ValueRead n v r x out) e h)
-
-pub range_read : {n : ℕ} {v : Option Bytes} {g : ByteRange} {r : Result (Option ℕ) Fault} {out shown : Bytes} (blank made : Bytes) → blank ≡ made → shown ≡ out → RangeRead n v g r blank out → ReadInto (λ r out. RangeRead n v g r made out) (bytes_read r shown)
-range_read {n} {v} {g} {r} {out} {shown} blank made e s h =
-    (r, out, ap (bytes_read r) s, subst (λ (x : Bytes). RangeRead n v g r x out) e h)
-
-pub ranges_read_lem : {n : ℕ} {v : Option Bytes} {rs : List ByteRange} {r : Result (Option ℕ) Fault} {out shown : Bytes} {notes seen : List Note} (blank made : Bytes) (blanks written : List Note) → blank ≡ made → blanks ≡ written → shown ≡ out → seen ≡ notes → RangesRead n v rs r blank out blanks notes → (q : Result (Option ℕ) Fault) × (a : Bytes) × (b : List Note) × (ranges_read r shown seen ≡ ranges_read q a b) × RangesRead n v rs q made a written b
-ranges_read_lem {n} {v} {rs} {r} {out} {shown} {notes} {seen} blank made blanks written e f s t h =
-    (r, out, notes, (λ i. ranges_read r (s i) (t i)), subst (λ (x : Bytes). RangesRead n v rs r x out written notes) e (subst (λ (x : List Note). RangesRead n v rs r blank out x notes) f h))
+-- rows put into the buffers of a call
 
 pub rows_listed_lem : {P : Bytes → Type 0} {r : Result ℕ Fault} {rows shown : List Row} (blank made : List Row) → blank ≡ made → shown ≡ rows → Listed P r blank rows → RowsInto (λ r rows. Listed P r made rows) (rows_listed r shown)
 rows_listed_lem {P} {r} {rows} {shown} blank made e s h =
@@ -107,3 +92,6 @@ dir_listed_lem {p} {c} {r} {ks} {ps} {shown} {seen} blank made blanks written e 
 -- the row of a text is the one row that holds it
 pub row_of : (t : Bytes) (w : Row) → RowOf t w → w ≡ row_for t
 row_of t w h = (λ i. record { bytes = h.bytes i; len = h.long i })
+
+pub all_blank : (n : ℕ) (w : Row) (rows : List Row) → RowOf [] w → rows ≡ replicate n w → rows ≡ blank_rows n
+all_blank n w rows h e = e ∙ ap (replicate n) (row_of [] w h)

@@ -7,7 +7,7 @@ use Rattle.order.proofs.SortedLists.{has_first, has_cons_cases}
 use Rattle.keys.specs.Text.{Bytes, slash, Begins}
 use Rattle.keys.specs.declared.row.Row.{Row}
 use Rattle.ranges.specs.declared.byte_range.ByteRange.{ByteRange}
-use Rattle.extraction.specs.declared.Note.{Note}
+use Rattle.extraction.specs.Notes.{Note}
 use Rattle.storage.specs.Contents.{Contents, under, found, bytes_of, without, keys_of, total, sized}
 use Rattle.storage.specs.Readings.{read_bytes, read_notes, range_bytes, ValueRead, RangeRead, RangesRead}
 use Rattle.storage.specs.declared.fault.Fault.{Fault}

@@ -1,5 +1,5 @@
 -- What runs promise, of performed calls.
-use Rattle.std.proofs.Common.{◌≡◌, ℕ, Bool, List, [], ◌∷◌, ◌++◌, sym, refl, ap, ◌∙◌, subst, append_assoc, append-nil}
+use Rattle.std.proofs.Common.{◌≡◌, ℕ, List, [], ◌∷◌, ◌++◌, sym, refl, ap, ◌∙◌, subst, append_assoc, append-nil}
 use Rattle.storage.specs.Contents.{Contents, Ascending, ascending}
 use Rattle.runs.specs.declared.call.Call.{Call}
 use Rattle.runs.specs.declared.call.Answer.{Answer}
@@ -7,7 +7,7 @@ use Rattle.runs.specs.Labels.{within}
 use Rattle.runs.specs.Events.{Event, Run, none, also, events}
 use Rattle.runs.specs.Laws.{PlainCalls, Lawful}
 use Rattle.runs.specs.Performed.{Performed, Ran, idle, next}
-use Rattle.runs.specs.Runs.{Reached, Whole, RunLaws, TwoRunLaws}
+use Rattle.runs.specs.Runs.{Whole, RunLaws, TwoRunLaws}
 use Rattle.runs.proofs.Held.{PlainRun}
 use Rattle.runs.proofs.Loops.{ran_on}
 use Rattle.runs.proofs.Replies.{performed_answers, answers_performed}
@@ -86,9 +86,6 @@ whole_from {n} {c} {h} w past (x ∷ rest) b e r =
 
 whole_ran : {n : ℕ} {c : Contents} {h : Run} → Whole n h c → Ran n [] h c
 whole_ran {n} {c} {h} w = whole_from w [] h [] refl idle
-
-pub reached_is : {cs : List Call} {w v : Bool} {rs : List Answer} → w ≡ v → Reached cs v rs → Reached cs w rs
-reached_is e x = record { all = λ q. x.all (sym e ∙ q); part = λ q. x.part (sym e ∙ q) }
 
 pub run_laws : {n : ℕ} {c c' : Contents} (cs : List Call) (rs : List Answer) → PlainCalls cs → Ran n c (events cs rs) c' → RunLaws n c (events cs rs) c'
 run_laws {n} {c} {c'} cs rs p r =

@@ -19,7 +19,7 @@ use Rattle.keys.specs.StoreKeys.{text}
 use Rattle.keys.specs.StorePrefixes.{prefix_text}
 use Rattle.keys.specs.declared.row.Row.{Row}
 use Rattle.ranges.specs.declared.byte_range.ByteRange.{ByteRange}
-use Rattle.extraction.specs.declared.Note.{Note}
+use Rattle.extraction.specs.Notes.{Note}
 use Rattle.patches.specs.Patches.{laid_all}
 use Rattle.patches.specs.declared.Patch.{Patch}
 use Rattle.storage.specs.Contents.{same, under, bytes_of}

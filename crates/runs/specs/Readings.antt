@@ -1,12 +1,11 @@
 -- What readings and listings answer: it follows from the contents there, the layers, and what is asked.
 --   zeros, blank_notes, blank_rows     the buffers that a run makes
 --   Reads n q c x                      x answers q through n layers, where c is stored
-use Rattle.std.specs.Prelude.{◌≡◌, ℕ, List, [], replicate, Option, Result}
+use Rattle.std.specs.Prelude.{◌≡◌, ℕ, List, [], replicate, Option, Result, Ok}
 use Rattle.std.specs.List.{slice_get}
 use Rattle.keys.specs.Text.{Bytes}
 use Rattle.keys.specs.declared.row.Row.{Row}
-use Rattle.extraction.specs.declared.Note.{Note}
-use Rattle.extraction.specs.declared.Note.TheVariants as note
+use Rattle.extraction.specs.Notes.{Note}
 use Rattle.storage.specs.Contents.{Contents, found, keys_of, total, sized}
 use Rattle.storage.specs.Readings.{ValueRead, RangeRead, RangesRead}
 use Rattle.storage.specs.declared.fault.Fault.{Fault}
@@ -18,7 +17,7 @@ abbrev pub zeros : ℕ → Bytes
 zeros n = replicate n 0
 
 abbrev pub blank_notes : ℕ → List Note
-blank_notes n = replicate n (note.Bytes (record { start = 0; len = 0 }))
+blank_notes n = replicate n (Ok (record { start = 0; len = 0 }))
 
 abbrev pub blank_rows : ℕ → List Row
 blank_rows n = replicate n (row_for [])

@@ -4,14 +4,18 @@
 --   Whole n h c                the laws of the run h from an empty store, through n layers, that left c
 --   RunLaws                    the laws of a run: from an empty store, or after another run
 --   TwoRunLaws                 the laws of two runs on the same layers
-use Rattle.std.specs.Prelude.{◌≡◌, ℕ, ◌<◌, Bool, true, false, List, [], ◌++◌, length}
+--   RanOnTidy, LawfulRun       the calls cs of an adapter, answered rs, over a store that went from s to s': performed in turn, where the store is tidy; with the laws of a run, where they also export plain labels only
+--   LawfulTwoRuns              the laws of two such runs, over tidy stores with as many layers below
+use Rattle.std.specs.Prelude.{◌≡◌, ℕ, suc, ◌<◌, Bool, true, false, List, [], ◌++◌, length}
 use Rattle.keys.specs.Text.{Bytes, PrefixText}
 use Rattle.storage.specs.Contents.{Contents, Ascending}
 use Rattle.runs.specs.declared.call.Call.{Call}
 use Rattle.runs.specs.declared.call.Answer.{Answer}
 use Rattle.runs.specs.Answers.{Answers}
-use Rattle.runs.specs.Events.{Event, Run, Every, Split}
-use Rattle.runs.specs.Laws.{PlainAsk, Lawful, Alike, Unrefused, SameOn}
+use Rattle.storage.specs.declared.storage_sync.ReadableStorageTraits.{Ghosts}
+use Rattle.runs.specs.Events.{Event, Run, Every, Split, events}
+use Rattle.runs.specs.Laws.{PlainAsk, PlainCalls, Lawful, Alike, Unrefused, SameOn}
+use Rattle.runs.specs.Performed.{Ran}
 
 pub record Reached (cs : List Call) (whole : Bool) (rs : List Answer) : Type 0 where
   pub all : whole ≡ true → length rs ≡ length cs
@@ -65,3 +69,16 @@ pub record TwoRunLaws (n : ℕ) (c : Contents) (h : Run) (c' d : Contents) (g : 
       → Unrefused h
       → Unrefused g
       → SameOn p (earlier ++ h) (before ++ g) c' d'
+
+abbrev pub RanOnTidy : {S : Type 0} → Ghosts S → List Call → List Answer → S → S → Type 0
+RanOnTidy m cs rs s s' = m.tidy ≡ true → Ran (suc m.layers) (m.contents s) (events cs rs) (m.contents s')
+
+abbrev pub LawfulRun : {S : Type 0} → Ghosts S → List Call → List Answer → S → S → Type 0
+LawfulRun m cs rs s s' = m.tidy ≡ true → PlainCalls cs → RunLaws (suc m.layers) (m.contents s) (events cs rs) (m.contents s')
+
+abbrev pub LawfulTwoRuns : {S R : Type 0} → Ghosts S → Ghosts R → List Call → List Answer → S → S → List Call → List Answer → R → R → Type 0
+LawfulTwoRuns m o cs rs s s' ds qs t t' =
+    m.tidy ≡ true
+    → o.tidy ≡ true
+    → m.layers ≡ o.layers
+    → TwoRunLaws (suc m.layers) (m.contents s) (events cs rs) (m.contents s') (o.contents t) (events ds qs) (o.contents t')

@@ -5,7 +5,7 @@ ghost use Rattle.keys.specs.StoreKeys.{text};
 ghost use Rattle.keys.specs.StorePrefixes.{prefix_text};
 ghost use Rattle.runs.specs.Events.{asked, set, patch, erase, erase_many, erase_prefix, power_on, read, size_key, get, get_partial, get_partial_many, key_at, list, list_prefix, list_dir, size_prefix, size};
 ghost use Rattle.runs.specs.Performed.{Tried};
-ghost use Rattle.runs.specs.Readings.{zeros, blank_notes, blank_rows};
+ghost use Rattle.runs.specs.Readings.{blank_notes};
 
 use crate::call::{Answer, Call};
 use atomic_write::atomic_write::AtomicWriteStorageAdapter;
@@ -23,27 +23,11 @@ use storage::storage_sync::writes::{
     AtomicRenameStorageTraits, ListableStorageTraits, WritableStorageTraits,
 };
 
-/// A buffer of that many zeros.
-fn zeros(len: usize, heap: Global) -> Result<Vec<u8>, AllocError>
-    ensures { IfOk result (λ v. (v.items ≡ zeros len) × (vec_len v ≡ len)) }
-{
-    vec![in heap; 0; len]
-}
-
 /// That many notes, each of no byte.
 fn blank_notes(len: usize, heap: Global) -> Result<Vec<Note>, AllocError>
     ensures { IfOk result (λ v. (v.items ≡ blank_notes len) × (vec_len v ≡ len)) }
 {
-    vec![in heap; Note::Bytes(Place { start: 0, len: 0 }); len]
-}
-
-/// That many rows of the empty text.
-fn blank_rows(len: usize, heap: Global) -> Result<Vec<Row>, AllocError>
-    ensures { IfOk result (λ v. (v.items ≡ blank_rows len) × (vec_len v ≡ len)) }
-{
-    let row = Row::empty();
-    let rows = vec![in heap; row; len]?;
-    Ok(rows)
+    vec![in heap; Ok(Place { start: 0, len: 0 }); len]
 }
 
 pub(crate) fn set<S: AtomicRenameStorageTraits>(
@@ -66,7 +50,7 @@ pub(crate) fn set_partial_many<S: AtomicRenameStorageTraits>(
 ) -> Result<Answer, AllocError>
     ensures { Tried S.ReadableStorageTraits (patch (text key.now) patches.now source.now work_len) adapter.old.storage adapter.new.storage result }
 {
-    let mut work = zeros(work_len, heap)?;
+    let mut work = vec![in heap; 0; work_len]?;
     let result = adapter.set_partial_many(key, patches, source, work.as_mut_slice());
     Ok(Answer::Patched(result, work))
 }
@@ -124,7 +108,7 @@ pub(crate) fn get<S: ReadableStorageTraits>(
 ) -> Result<Answer, AllocError>
     ensures { Tried S.ReadableStorageTraits (read (get (text key.now) len)) adapter.now.storage adapter.now.storage result }
 {
-    let mut out = zeros(len, heap)?;
+    let mut out = vec![in heap; 0; len]?;
     let result = reads::get(adapter, key, out.as_mut_slice());
     Ok(Answer::Read(result, out))
 }
@@ -138,7 +122,7 @@ pub(crate) fn get_partial<S: ReadableStorageTraits>(
 ) -> Result<Answer, AllocError>
     ensures { Tried S.ReadableStorageTraits (read (get_partial (text key.now) range len)) adapter.now.storage adapter.now.storage result }
 {
-    let mut out = zeros(len, heap)?;
+    let mut out = vec![in heap; 0; len]?;
     let result = reads::get_partial(adapter, key, range, out.as_mut_slice());
     Ok(Answer::Read(result, out))
 }
@@ -153,7 +137,7 @@ pub(crate) fn get_partial_many<S: ReadableStorageTraits>(
 ) -> Result<Answer, AllocError>
     ensures { Tried S.ReadableStorageTraits (read (get_partial_many (text key.now) ranges.now len notes_len)) adapter.now.storage adapter.now.storage result }
 {
-    let mut out = zeros(len, heap)?;
+    let mut out = vec![in heap; 0; len]?;
     let mut notes = blank_notes(notes_len, heap)?;
     let result = adapter.get_partial_many(key, ranges, out.as_mut_slice(), notes.as_mut_slice());
     Ok(Answer::ReadMany(result, out, notes))
@@ -175,7 +159,7 @@ pub(crate) fn list<S: ListableStorageTraits>(
 ) -> Result<Answer, AllocError>
     ensures { Tried S.ReadableStorageTraits (read (list len)) adapter.now.storage adapter.now.storage result }
 {
-    let mut keys = blank_rows(len, heap)?;
+    let mut keys = vec![in heap; Row::empty(); len]?;
     let result = listing::list(adapter, keys.as_mut_slice());
     Ok(Answer::Listed(result, keys))
 }
@@ -188,7 +172,7 @@ pub(crate) fn list_prefix<S: ListableStorageTraits>(
 ) -> Result<Answer, AllocError>
     ensures { Tried S.ReadableStorageTraits (read (list_prefix (prefix_text prefix.now) len)) adapter.now.storage adapter.now.storage result }
 {
-    let mut keys = blank_rows(len, heap)?;
+    let mut keys = vec![in heap; Row::empty(); len]?;
     let result = listing::list_prefix(adapter, prefix, keys.as_mut_slice());
     Ok(Answer::Listed(result, keys))
 }
@@ -202,8 +186,8 @@ pub(crate) fn list_dir<S: ListableStorageTraits>(
 ) -> Result<Answer, AllocError>
     ensures { Tried S.ReadableStorageTraits (read (list_dir (prefix_text prefix.now) keys_len prefixes_len)) adapter.now.storage adapter.now.storage result }
 {
-    let mut keys = blank_rows(keys_len, heap)?;
-    let mut prefixes = blank_rows(prefixes_len, heap)?;
+    let mut keys = vec![in heap; Row::empty(); keys_len]?;
+    let mut prefixes = vec![in heap; Row::empty(); prefixes_len]?;
     let result = listing::list_dir(
         adapter,
         prefix,

@@ -1,5 +1,6 @@
 -- Hexadecimal text: two lowercase digits for each byte.
-use Rattle.std.specs.Prelude.{ℕ, ◌+◌, ◌-◌, ◌*◌, ◌/◌, ◌%◌, Bool, true, cond, ◌&&◌, ◌||◌, [], ◌∷◌, length, ◌==◌, nat_le, nat_lt}
+use Rattle.std.specs.Prelude.{ℕ, ◌+◌, ◌-◌, ◌*◌, ◌/◌, ◌%◌, Bool, cond, ◌&&◌, ◌||◌, [], ◌∷◌, length, ◌==◌, nat_le, nat_lt}
+use Rattle.std.specs.List.{flat_map, list_all}
 use Rattle.script.specs.Words.{Bytes}
 
 -- `0` to `9`
@@ -23,8 +24,7 @@ digit_of n = cond (nat_lt (n % 16) 10) (48 + n % 16) (87 + n % 16)
 
 -- every byte is a digit
 abbrev pub all_digits : Bytes → Bool
-all_digits [] = true
-all_digits (b ∷ t) = is_digit b && all_digits t
+all_digits t = list_all is_digit t
 
 -- pairs of digits
 unfoldable pub is_hex : Bytes → Bool
@@ -38,5 +38,4 @@ unhex (a ∷ b ∷ t) = (digit_value a * 16 + digit_value b) ∷ unhex t
 
 -- the pairs of digits that stand for bytes
 unfoldable pub hex : Bytes → Bytes
-hex [] = []
-hex (b ∷ t) = digit_of (b / 16) ∷ digit_of b ∷ hex t
+hex t = flat_map (λ b. digit_of (b / 16) ∷ digit_of b ∷ []) t

@@ -3,7 +3,7 @@ ghost use Rattle.std.specs.Prelude.{◌≡◌, Some};
 ghost use Rattle.script.specs.Commands.{skipped, verb_of, label_of, call_of, command_line, line_of, line_says, verb_says, export_says, read_says, finish_says, LabelRead, ValueRead, mistake_of, mistake_name};
 
 use crate::value::{Value, value_of};
-use crate::words::{is_word, next_word, trim};
+use crate::words::{next_word, trim};
 use std::fmt;
 
 /// A call of the box, as a line asks for it.
@@ -67,21 +67,18 @@ impl fmt::Display for ParseError<'_> {
 fn is_skipped(word: &[u8]) -> bool
     ensures { result ≡ skipped word.now }
 {
-    word.len() == 0 || word[0] == b'#'
+    matches!(word, [] | [b'#', ..])
 }
 
 /// The call that a word names.
 fn verb_of(word: &[u8]) -> Option<Verb>
     ensures { result ≡ verb_of word.now }
 {
-    if is_word(word, b"export") {
-        Some(Verb::Export)
-    } else if is_word(word, b"read") {
-        Some(Verb::Read)
-    } else if is_word(word, b"list") {
-        Some(Verb::List)
-    } else {
-        None
+    match word {
+        b"export" => Some(Verb::Export),
+        b"read" => Some(Verb::Read),
+        b"list" => Some(Verb::List),
+        _ => None,
     }
 }
 
@@ -89,10 +86,9 @@ fn verb_of(word: &[u8]) -> Option<Verb>
 fn label_of(word: &[u8]) -> &[u8]
     ensures { result.now ≡ label_of word.now }
 {
-    if is_word(word, b"\"\"") {
-        &word[0..0]
-    } else {
-        word
+    match word {
+        b"\"\"" => &[],
+        _ => word,
     }
 }
 
@@ -101,7 +97,7 @@ fn next_label(text: &[u8]) -> Result<(&[u8], &[u8]), ParseError<'_>>
     ensures { LabelRead text.now result }
 {
     let (word, rest) = next_word(text);
-    if word.len() == 0 {
+    if word.is_empty() {
         return Err(ParseError::NoLabel);
     }
     Ok((label_of(word), rest))
@@ -112,13 +108,10 @@ fn parse_value(text: &[u8]) -> Result<Value<'_>, ParseError<'_>>
     ensures { ValueRead text.now result }
 {
     let text = trim(text);
-    if text.len() == 0 {
+    if text.is_empty() {
         return Err(ParseError::NoValue);
     }
-    match value_of(text) {
-        Some(value) => Ok(value),
-        None => Err(ParseError::BadValue),
-    }
+    value_of(text).ok_or(ParseError::BadValue)
 }
 
 /// The command, if nothing stands behind it.
@@ -126,7 +119,7 @@ fn finish<'a>(rest: &'a [u8], command: Command<'a>) -> Result<Command<'a>, Parse
     ensures { command_line result ≡ finish_says (call_of command.entry) rest.now }
 {
     let rest = trim(rest);
-    if rest.len() == 0 {
+    if rest.is_empty() {
         return Ok(command);
     }
     Err(ParseError::ExtraText(rest))
@@ -169,8 +162,5 @@ pub fn parse(line: &[u8]) -> Result<Option<Command<'_>>, ParseError<'_>>
     if is_skipped(word) {
         return Ok(None);
     }
-    match parse_command(word, rest) {
-        Ok(command) => Ok(Some(command)),
-        Err(error) => Err(error),
-    }
+    parse_command(word, rest).map(Some)
 }

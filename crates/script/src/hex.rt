@@ -1,26 +1,19 @@
 //! Hexadecimal text: two lowercase digits for each byte.
-ghost use Rattle.std.specs.Prelude.{◌≡◌, ◌<◌, ◌++◌, IfOk, OnOk};
+ghost use Rattle.std.specs.Prelude.{◌≡◌, ◌+◌, ◌*◌, ◌<◌, ◌++◌, IfOk, IfSome, OnOk, is_some, unwrap_or};
 ghost use Rattle.script.specs.Hex.{is_digit, digit_value, digit_of, is_hex, unhex, hex};
 
 use std::alloc::{AllocError, Global};
 
-/// True for `0` to `9` and `a` to `f`.
-fn is_hex_digit(b: u8) -> bool
-    ensures { result ≡ is_digit b }
+/// The value of a digit, `0` to `9` or `a` to `f`.
+fn digit_value(b: u8) -> Option<u8>
+    ensures variant { is_some result ≡ is_digit b }
+    ensures value { unwrap_or result 0 ≡ digit_value b }
+    ensures bound { IfSome result (λ n. n < 16) }
 {
-    (b >= b'0' && b <= b'9') || (b >= b'a' && b <= b'f')
-}
-
-/// The value of a digit, 0 where the byte is none.
-fn digit_value(b: u8) -> u8
-    ensures { (result ≡ digit_value b) × (result < 16) }
-{
-    if b >= b'0' && b <= b'9' {
-        b - b'0'
-    } else if b >= b'a' && b <= b'f' {
-        b - b'a' + 10
-    } else {
-        0
+    match b {
+        b'0'..=b'9' => Some(b - b'0'),
+        b'a'..=b'f' => Some(b - b'a' + 10),
+        _ => None,
     }
 }
 
@@ -28,11 +21,9 @@ fn digit_value(b: u8) -> u8
 fn hex_digit(n: u8) -> u8
     ensures { result ≡ digit_of n }
 {
-    let low = n % 16;
-    if low < 10 {
-        b'0' + low
-    } else {
-        b'a' + (low - 10)
+    match n % 16 {
+        low @ 0..=9 => b'0' + low,
+        low => b'a' + (low - 10),
     }
 }
 
@@ -40,12 +31,14 @@ fn hex_digit(n: u8) -> u8
 pub(crate) fn is_hex(text: &[u8]) -> bool
     ensures { result ≡ is_hex text.now }
 {
-    for b in text {
-        if !is_hex_digit(*b) {
-            return false;
-        }
-    }
-    text.len() % 2 == 0
+    text.iter().all(|b| digit_value(*b).is_some()) && text.len() % 2 == 0
+}
+
+/// The byte that two digits stand for; what is no digit counts as 0.
+fn pair_value(high: u8, low: u8) -> u8
+    ensures { result ≡ digit_value high * 16 + digit_value low }
+{
+    digit_value(high).unwrap_or(0) * 16 + digit_value(low).unwrap_or(0)
 }
 
 /// The bytes that pairs of digits stand for.
@@ -53,8 +46,8 @@ pub fn decode(heap: Global, text: &[u8]) -> Result<Vec<u8>, AllocError>
     ensures { IfOk result (λ v. v.items ≡ unhex text.now) }
 {
     let mut out = Vec::new(heap);
-    for i in 0..text.len() / 2 {
-        out.push(digit_value(text[2 * i]) * 16 + digit_value(text[2 * i + 1]))?;
+    for pair in text.chunks_exact(2) {
+        out.push(pair_value(pair[0], pair[1]))?;
     }
     Ok(out)
 }

@@ -11,8 +11,8 @@ fn told(heap: Global, line: &[u8]) -> Result<Vec<u8>, AllocError> {
     let mut out = Vec::new(heap);
     match parse(line) {
         Ok(None) => out.extend_from_slice(b"nothing")?,
-        Ok(Some(command)) => write_command(&mut out, &command, heap)?,
-        Err(error) => write_mistake_line(&mut out, 7, &error, heap)?,
+        Ok(Some(command)) => write_command(&mut out, &command)?,
+        Err(error) => write_mistake_line(&mut out, 7, &error)?,
     }
     Ok(out)
 }

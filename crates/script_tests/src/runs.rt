@@ -11,7 +11,7 @@ use transcript::lines::{write_call_line, write_entry_line, write_total_line};
 /// The line for a call.
 fn line(heap: Global, command: &Command, answer: &Answer) -> Result<Vec<u8>, AllocError> {
     let mut out = Vec::new(heap);
-    write_call_line(&mut out, 12, command, answer, heap)?;
+    write_call_line(&mut out, 12, command, answer)?;
     Ok(out)
 }
 
@@ -95,9 +95,8 @@ fn readings(rt: HostRuntime) -> Result<(), Fail> {
 fn two_keys(heap: Global, bytes: &[u8]) -> Result<Vec<StoreKey>, AllocError> {
     let mut keys = Vec::new(heap);
     keys.push(StoreKey::root())?;
-    match StoreKey::new(bytes) {
-        Ok(key) => keys.push(key)?,
-        Err(_) => {}
+    if let Ok(key) = StoreKey::new(bytes) {
+        keys.push(key)?;
     }
     Ok(keys)
 }
@@ -106,7 +105,7 @@ fn two_keys(heap: Global, bytes: &[u8]) -> Result<Vec<StoreKey>, AllocError> {
 fn listed(rt: &impl Abort, heap: Global, answer: &Answer, what: &[u8]) -> Result<(), Fail> {
     let mut out = Vec::new(heap);
     if let Ok(Some(command)) = parse(b"list") {
-        write_call_line(&mut out, 12, &command, answer, heap)?;
+        write_call_line(&mut out, 12, &command, answer)?;
     }
     assert!(rt; out.as_slice() == what);
     Ok(())
@@ -125,8 +124,8 @@ fn listings(rt: HostRuntime) -> Result<(), Fail> {
 fn ends(rt: HostRuntime) -> Result<(), Fail> {
     let heap = rt.alloc();
     let mut out = Vec::new(heap);
-    write_entry_line(&mut out, b"a/b", 32768, heap)?;
-    write_total_line(&mut out, 1, 32768, heap)?;
+    write_entry_line(&mut out, b"a/b", 32768)?;
+    write_total_line(&mut out, 1, 32768)?;
     assert!(rt; out.as_slice() == b"a/b 32768\ntotal 1 key, 32768 bytes\n".as_slice());
     Ok(())
 }

@@ -1,5 +1,5 @@
 -- What a store holds, written key by key.
-use Rattle.std.proofs.Common.{◌≡◌, ℕ, ◌+◌, ◌<◌, ◌≤◌, true, [], ◌∷◌, ◌++◌, length, get_or, take, drop, Some, None, unwrap_or, sym, refl, ap, ◌∙◌, subst, append_assoc, arith}
+use Rattle.std.proofs.Common.{◌≡◌, ℕ, ◌+◌, ◌<◌, ◌≤◌, true, [], ◌∷◌, ◌++◌, length, get_or, take, drop, Some, unwrap_or, sym, refl, ap, ◌∙◌, subst, append_assoc, arith}
 use Rattle.std.specs.List.{slice_get}
 use Rattle.std.proofs.lemmas.List.{append-nil, at_drop_more, drop_more, take-append-drop, map-append, get_or-map, length-map, drop_all}
 use Rattle.std.proofs.lemmas.Option.{slice_get-get_or}
@@ -10,7 +10,7 @@ use Rattle.storage.proofs.Places.{found_at}
 use Rattle.script.proofs.Appends.{onward}
 use Rattle.transcript.specs.Answers.{entry_line, total_line}
 use Rattle.session.specs.Runs.{entries_text, holds_text}
-use Rattle.session.proofs.Keys.{below, past}
+use Rattle.session.proofs.Keys.{below}
 
 -- n keys are written: what is left of the lines and of the bytes
 pub record Sofar (c : Contents) (n bytes : ℕ) (o a : Bytes) : Type 0 where
@@ -18,15 +18,15 @@ pub record Sofar (c : Contents) (n bytes : ℕ) (o a : Bytes) : Type 0 where
   pub lines : a ++ entries_text (drop n c) ≡ o ++ entries_text c
   pub sum : bytes + total (drop n c) ≡ total c
 
+pub no_line : (c : Contents) (n : ℕ) (o : Bytes) → n ≡ 0 → Sofar c n 0 o o
+no_line c n o z = subst (λ j. Sofar c j 0 o o) (sym z) (record { within = omega arith; lines = refl; sum = omega arith })
+
 nobody : Entry
 nobody = record { key = []; value = [] }
 
 module _ (c : Contents) (n : ℕ) where
   pub here : (k : Bytes) → Some k ≡ slice_get (keys_of c) n → n < length c
   here k e = omega (arith, below (keys_of c) n k e, length-map c (λ (x : Entry). x.key))
-
-  pub over : None ≡ slice_get (keys_of c) n → length c ≤ n
-  over e = omega (arith, past (keys_of c) n e, length-map c (λ (x : Entry). x.key))
 
   key_here : (k : Bytes) → Some k ≡ slice_get (keys_of c) n → (get_or c n nobody).key ≡ k
   key_here k e =
@@ -73,10 +73,12 @@ module _ (c : Contents) (n : ℕ) where
         sum = omega (arith, total_more l, i.sum);
       }
 
-  pub all_lines : (bytes : ℕ) (o w b : Bytes) → None ≡ slice_get (keys_of c) n → b ≡ w ++ total_line n bytes → Sofar c n bytes o w → b ≡ o ++ holds_text c
+  pub next_line : (m bytes : ℕ) (o b : Bytes) → m ≡ n + 1 → Sofar c (n + 1) bytes o b → Sofar c m bytes o b
+  next_line m bytes o b e h = subst (λ j. Sofar c j bytes o b) (sym e) h
+
+  pub all_lines : (bytes : ℕ) (o w b : Bytes) → length c ≤ n → b ≡ w ++ total_line n bytes → Sofar c n bytes o w → b ≡ o ++ holds_text c
   unfolding holds_text entries_text total
-  all_lines bytes o w b e q i =
-      let p = over e in
+  all_lines bytes o w b p q i =
       let d = drop_all n c p in
       let m : n ≡ length c = omega (arith, i.within) in
       let t : bytes ≡ total c = omega (arith, i.sum, ap total d) in

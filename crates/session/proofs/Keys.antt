@@ -1,8 +1,9 @@
 -- Keys that are taken one by one from an ascending list.
-use Rattle.std.proofs.Common.{◌≡◌, ℕ, ◌+◌, ◌<◌, ◌≤◌, List, [], ◌∷◌, ◌++◌, map, length, get_or, take, Some, None, sym, ap, ◌∙◌, ⊎_elim, arith}
+use Rattle.std.proofs.Common.{◌≡◌, ℕ, ◌+◌, ◌<◌, ◌≤◌, List, [], ◌∷◌, ◌++◌, map, length, get_or, take, Some, None, sym, refl, ap, ◌∙◌, ⊎_elim, arith}
 use Rattle.std.specs.List.{slice_get}
+use Rattle.std.specs.Option.{option_map}
 use Rattle.std.proofs.lemmas.List.{map_push, take_more, take_all}
-use Rattle.std.proofs.lemmas.Option.{slice_get-get_or as nth-getD, slice_get_past as nth_past}
+use Rattle.std.proofs.lemmas.Option.{slice_get-get_or as nth-getD, slice_get_past as nth_past, slice_get-map, slice_get_read}
 use Rattle.std.proofs.lemmas.Bool.{cases_lt}
 use Rattle.keys.specs.Text.{Bytes}
 use Rattle.keys.specs.StoreKeys.{text}
@@ -27,3 +28,6 @@ module _ (xs : List Bytes) (n : ℕ) where
 
   pub all_taken : (ks : List StoreKey) → None ≡ slice_get xs n → map text ks ≡ take n xs → map text ks ≡ xs
   all_taken ks e h = h ∙ take_all n xs (past e)
+
+pub none_taken : (xs : List Bytes) (n : ℕ) (ks : List StoreKey) → ks ≡ [] → n ≡ 0 → map text ks ≡ take n xs
+none_taken xs n ks e z = ap (map text) e ∙ ap (λ j. take j xs) (sym z)

@@ -1,10 +1,13 @@
 //! One call.
-ghost use Rattle.std.specs.Prelude.{◌≡◌, true, IfOk};
+ghost use Rattle.std.specs.Prelude.{◌≡◌, true, map, length, IfOk};
+ghost use Rattle.keys.specs.StoreKeys.{text};
+ghost use Rattle.storage.specs.Contents.{keys_of};
 ghost use Rattle.script.specs.Commands.{call_of};
-ghost use Rattle.session.specs.Calls.{refusal_of, ExportAnswered, ReadAnswered, ListAnswered, Performed};
+ghost use Rattle.session.specs.Calls.{refusal_of, export_answer, ExportAnswered, ReadAnswered, ListAnswered, Performed};
 
 use atomic_write::atomic_write::AtomicWriteStorageAdapter;
 use keys::store_key::StoreKey;
+use listings::stored_keys::stored_keys;
 use script::command::Command;
 use std::alloc::{AllocError, Global};
 use storage::fault::Fault;
@@ -26,6 +29,18 @@ fn refusal(fault: &Fault) -> Refusal
     }
 }
 
+/// Stores a value under a label.
+fn set_labelled<S: AtomicRenameStorageTraits>(
+    look_box: &mut AtomicWriteStorageAdapter<S>,
+    label: &[u8],
+    value: &[u8],
+) -> Result<(), Fault>
+    ensures { S.ReadableStorageTraits.tidy ≡ true → ExportAnswered S.ReadableStorageTraits label.now value.now look_box.old.storage look_box.new.storage (export_answer (length value.now) result) }
+{
+    let key = StoreKey::new(label)?;
+    look_box.set(&key, value)
+}
+
 /// Exports a value under a label.
 pub fn export<S: AtomicRenameStorageTraits>(
     look_box: &mut AtomicWriteStorageAdapter<S>,
@@ -34,11 +49,7 @@ pub fn export<S: AtomicRenameStorageTraits>(
 ) -> Answer
     ensures { S.ReadableStorageTraits.tidy ≡ true → ExportAnswered S.ReadableStorageTraits label.now value.now look_box.old.storage look_box.new.storage result }
 {
-    let key = match StoreKey::new(label) {
-        Ok(key) => key,
-        Err(e) => return Answer::Refused(refusal(&Fault::from(e))),
-    };
-    match look_box.set(&key, value) {
+    match set_labelled(look_box, label, value) {
         Ok(()) => Answer::Done(value.len()),
         Err(fault) => Answer::Refused(refusal(&fault)),
     }
@@ -72,7 +83,7 @@ pub fn list<S: ListableStorageTraits>(store: &S, heap: Global) -> Result<Answer,
     ensures { IfOk result (λ a. ListAnswered (S.ReadableStorageTraits.contents store.now) a) }
 {
     let mut keys = Vec::new(heap);
-    while let Some(key) = store.key_at(keys.len()) {
+    for key in stored_keys(store) {
         keys.push(key)?;
     }
     Ok(Answer::Keys(keys))

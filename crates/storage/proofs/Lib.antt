@@ -7,3 +7,4 @@ pub mod Prefixes
 pub mod Readings
 pub mod OffsetWrites
 pub mod Erasures
+pub mod Mapped

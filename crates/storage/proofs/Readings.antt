@@ -10,8 +10,7 @@ use Rattle.ranges.specs.Ranges.{fitting, picked}
 use Rattle.ranges.specs.declared.byte_range.InvalidByteRangeError.{InvalidByteRangeError}
 use Rattle.ranges.proofs.Questions.{room_enough}
 use Rattle.extraction.specs.Extracts.{items, notes_from, note_at, read_no}
-use Rattle.extraction.specs.declared.Note.{Note}
-use Rattle.extraction.specs.declared.Note.TheVariants as note
+use Rattle.extraction.specs.Notes.{Note}
 use Rattle.extraction.specs.declared.Place.{Place}
 use Rattle.extraction.proofs.Picks.{picked_fits, picked-unfit}
 use Rattle.storage.specs.declared.fault.Fault.{Fault}
@@ -21,7 +20,7 @@ use Rattle.storage.specs.Readings.{deepened, read_answer, read_bytes, value_answ
 
 -- the note before a reading
 abbrev pub blank : Note
-blank = note.Bytes (record { start = 0; len = 0 })
+blank = Ok (record { start = 0; len = 0 })
 
 -- a reading of one range
 items-one : (b : Bytes) (g : ByteRange) → items b (g ∷ []) ≡ picked b g
@@ -62,7 +61,7 @@ module _ (n : ℕ) (g : ByteRange) (out out' : Bytes) (notes' : List Note) where
           let c = h.answer ∙ none in absurd (let z : ◌≡◌ {A = ℕ} 0 1 = cc in omega arith)
 
   -- noted with its bytes
-  pub one_read : (v : Option Bytes) (k : Option ℕ) (p : Place) → RangesRead n v (g ∷ []) (Ok k) out out' (blank ∷ []) notes' → get_or notes' 0 blank ≡ note.Bytes p → RangeRead n v g (Ok k) out out'
+  pub one_read : (v : Option Bytes) (k : Option ℕ) (p : Place) → RangesRead n v (g ∷ []) (Ok k) out out' (blank ∷ []) notes' → get_or notes' 0 blank ≡ Ok p → RangeRead n v g (Ok k) out out'
   one_read None k p h is = record { answer = h.answer; output = h.output }
   one_read (Some b) k p h is = go (fitting g (length b)) refl
     where
@@ -71,14 +70,14 @@ module _ (n : ℕ) (g : ByteRange) (out out' : Bytes) (notes' : List Note) where
       go false e = let c = sym is ∙ noted b k h ∙ cond-false _ _ _ e in absurd (let z : ◌≡◌ {A = ℕ} 0 1 = cc in omega arith)
 
   -- noted as unfit
-  pub one-unfit : (v : Option Bytes) (k : Option ℕ) (e : InvalidByteRangeError) (f : Fault) → RangesRead n v (g ∷ []) (Ok k) out out' (blank ∷ []) notes' → get_or notes' 0 blank ≡ note.Fault e → f ≡ from_range e → RangeRead n v g (Err f) out out'
+  pub one-unfit : (v : Option Bytes) (k : Option ℕ) (e : InvalidByteRangeError) (f : Fault) → RangesRead n v (g ∷ []) (Ok k) out out' (blank ∷ []) notes' → get_or notes' 0 blank ≡ Err e → f ≡ from_range e → RangeRead n v g (Err f) out out'
   one-unfit None k e f h is from = let c = sym is ∙ ap (λ (ns : List Note). get_or ns 0 blank) h.noted in absurd (let z : ◌≡◌ {A = ℕ} 0 1 = cc in omega arith)
   one-unfit (Some b) k e f h is from = go (fitting g (length b)) refl
     where
       go : (t : Bool) → fitting g (length b) ≡ t → RangeRead n (Some b) g (Err f) out out'
       go true t = let c = sym is ∙ noted b k h ∙ cond-true _ _ _ t in absurd (let z : ◌≡◌ {A = ℕ} 0 1 = cc in omega arith)
       go false t =
-          let c : note.Fault e ≡ note.Fault (record { range = g; size = length b }) = sym is ∙ noted b k h ∙ cond-false _ _ _ t in
+          let c : Err e ≡ Err (record { range = g; size = length b }) = sym is ∙ noted b k h ∙ cond-false _ _ _ t in
           let same : e ≡ record { range = g; size = length b } = cc in
           record {
             answer = ap Err (from ∙ ap (λ (x : InvalidByteRangeError). from_range x) same) ∙ sym (cond-false _ _ _ t);

@@ -6,7 +6,7 @@
 use Rattle.std.specs.Prelude.{◌≡◌, ℕ, cond, List, [], length, is_ok, Some, None, Ok, Err, Option, Result}
 use Rattle.keys.specs.Text.{Bytes}
 use Rattle.ranges.specs.declared.byte_range.ByteRange.{ByteRange}
-use Rattle.extraction.specs.declared.Note.{Note}
+use Rattle.extraction.specs.Notes.{Note}
 use Rattle.extraction.specs.Extracts.{items, notes_from, read_no}
 use Rattle.ranges.specs.Buffers.{fronted}
 use Rattle.ranges.specs.Ranges.{fitting, picked}

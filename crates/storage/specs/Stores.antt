@@ -12,6 +12,14 @@ use Rattle.storage.specs.Faults.{fault_of}
 use Rattle.storage.specs.Writes.{Write, set, patched, Unchanged, Settled, OffsetWritten}
 use Rattle.storage.specs.Readings.{ValueRead}
 
+-- the bytes of the value under k, none where it is not stored
+abbrev pub value_in : {S : Type 0} → Ghosts S → Bytes → S → Bytes
+value_in m k s = bytes_of (found k (m.contents s))
+
+-- what the patches ps, whose bytes lie in d, make of it
+abbrev pub patched_in : {S : Type 0} → Ghosts S → Bytes → Bytes → List Patch → S → Bytes
+patched_in m k d ps s = patched k d ps (m.contents s)
+
 -- a write, its answer, and the store before and after
 abbrev pub Wrote : {S A : Type 0} → Ghosts S → Write → Result A Fault → S → S → Type 0
 Wrote m w r s s' = Settled m.tidy m.inplace w r (m.contents s) (m.contents s') (m.verdict s) (m.verdict s')

@@ -3,19 +3,17 @@
 ghost use Rattle.std.specs.Prelude.{◌≡◌, ◌≤◌, [], ◌∷◌, length, is_ok, if◌then◌else◌};
 ghost use Rattle.keys.specs.StoreKeys.{text};
 ghost use Rattle.ranges.specs.Buffers.{fronted};
-ghost use Rattle.ranges.specs.Refusals.{room};
-ghost use Rattle.patches.specs.Patches.{lay_no, patched_length};
-ghost use Rattle.storage.specs.Contents.{found, bytes_of};
+ghost use Rattle.patches.specs.Patches.{lay_no};
 ghost use Rattle.storage.specs.Faults.{answered};
-ghost use Rattle.storage.specs.Writes.{patch_no, patched, worked};
-ghost use Rattle.storage.specs.Stores.{WroteAt, WrotePatched};
+ghost use Rattle.storage.specs.Writes.{patch_no, worked};
+ghost use Rattle.storage.specs.Stores.{WroteAt, WrotePatched, patched_in, value_in};
 
-use crate::fault::{Cause, Fault};
+use crate::fault::Fault;
 use crate::reads::get;
 use crate::storage_sync::ReadableStorageTraits;
 use crate::storage_sync::writes::WritableStorageTraits;
 use keys::store_key::StoreKey;
-use patches::{Patch, check_patches, lay_patches_in_place, patched_len};
+use patches::{Patch, check_in_place, check_patches, lay_patches_in_place};
 
 /// Asks the questions of an offset write on the value under `key`, and, where it is not made in place, builds the new value at the front of `work`.
 ///
@@ -28,8 +26,8 @@ pub fn begin_offset_write<S: ReadableStorageTraits>(
     source: &[u8],
     work: &mut [u8],
 ) -> Result<(), Fault>
-    ensures answer { result ≡ answered (patch_no in_place source.now patches.now (bytes_of (found (text key.now) (S.ReadableStorageTraits.contents store.now))) (length work.old)) tt }
-    ensures work { work.new ≡ (if is_ok result then worked in_place (patched (text key.now) source.now patches.now (S.ReadableStorageTraits.contents store.now)) work.old else work.old) }
+    ensures answer { result ≡ answered (patch_no in_place source.now patches.now (value_in S.ReadableStorageTraits (text key.now) store.now) (length work.old)) tt }
+    ensures work { work.new ≡ (if is_ok result then worked in_place (patched_in S.ReadableStorageTraits (text key.now) source.now patches.now store.now) work.old else work.old) }
 {
     if in_place {
         check_patches(patches, source)?;
@@ -47,8 +45,8 @@ pub fn build_patched<S: ReadableStorageTraits>(
     source: &[u8],
     work: &mut [u8],
 ) -> Result<usize, Fault>
-    ensures answer { result ≡ answered (lay_no source.now patches.now (bytes_of (found (text key.now) (S.ReadableStorageTraits.contents store.now))) (length work.old)) (length (patched (text key.now) source.now patches.now (S.ReadableStorageTraits.contents store.now))) }
-    ensures work { work.new ≡ (if is_ok result then fronted (patched (text key.now) source.now patches.now (S.ReadableStorageTraits.contents store.now)) work.old else work.old) }
+    ensures answer { result ≡ answered (lay_no source.now patches.now (value_in S.ReadableStorageTraits (text key.now) store.now) (length work.old)) (length (patched_in S.ReadableStorageTraits (text key.now) source.now patches.now store.now)) }
+    ensures work { work.new ≡ (if is_ok result then fronted (patched_in S.ReadableStorageTraits (text key.now) source.now patches.now store.now) work.old else work.old) }
 {
     check_lay(store, key, patches, source, work.len())?;
     let old_len = copy_value(store, key, work);
@@ -96,33 +94,17 @@ fn check_lay<S: ReadableStorageTraits>(
     source: &[u8],
     space: usize,
 ) -> Result<(), Fault>
-    ensures { result ≡ answered (lay_no source.now patches.now (bytes_of (found (text key.now) (S.ReadableStorageTraits.contents store.now))) space) tt }
-{
-    check_patches(patches, source)?;
-    check_room(store, key, patches, space)
-}
-
-/// Is there room for the patched value under `key`?
-fn check_room<S: ReadableStorageTraits>(
-    store: &S,
-    key: &StoreKey,
-    patches: &[Patch],
-    space: usize,
-) -> Result<(), Fault>
-    ensures { result ≡ answered (room space (patched_length (length (bytes_of (found (text key.now) (S.ReadableStorageTraits.contents store.now)))) patches.now)) tt }
+    ensures { result ≡ answered (lay_no source.now patches.now (value_in S.ReadableStorageTraits (text key.now) store.now) space) tt }
 {
     let old_len = store.size_key(key).unwrap_or(0);
-    match patched_len(old_len, patches) {
-        Some(n) if n <= space as u64 => Ok(()),
-        _ => Err(Fault::own(Cause::Short)),
-    }
+    Ok(check_in_place(old_len, patches, source, space)?)
 }
 
 /// Copies the value under `key` to the front of `work`, which has room for it, and answers its length; 0 if it is not stored.
 fn copy_value<S: ReadableStorageTraits>(store: &S, key: &StoreKey, work: &mut [u8]) -> usize
-    requires { length (bytes_of (found (text key.now) (S.ReadableStorageTraits.contents store.now))) ≤ length work.old }
-    ensures len { result ≡ length (bytes_of (found (text key.now) (S.ReadableStorageTraits.contents store.now))) }
-    ensures work { work.new ≡ fronted (bytes_of (found (text key.now) (S.ReadableStorageTraits.contents store.now))) work.old }
+    requires { length (value_in S.ReadableStorageTraits (text key.now) store.now) ≤ length work.old }
+    ensures len { result ≡ length (value_in S.ReadableStorageTraits (text key.now) store.now) }
+    ensures work { work.new ≡ fronted (value_in S.ReadableStorageTraits (text key.now) store.now) work.old }
 {
     match get(store, key, work) {
         Ok(Some(n)) => n,

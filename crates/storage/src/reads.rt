@@ -18,7 +18,7 @@ pub fn get<S: ReadableStorageTraits>(
 ) -> Result<Option<usize>, Fault>
     ensures { ValueRead S.ReadableStorageTraits.layers (found (text key.now) (S.ReadableStorageTraits.contents store.now)) result out.old out.new }
 {
-    let mut notes = [Note::Bytes(Place { start: 0, len: 0 })];
+    let mut notes = [Ok(Place { start: 0, len: 0 })];
     store.get_partial_many(key, &[ByteRange::FromStart(0, None)], out, &mut notes)
 }
 
@@ -31,10 +31,8 @@ pub fn get_partial<S: ReadableStorageTraits>(
 ) -> Result<Option<usize>, Fault>
     ensures { RangeRead S.ReadableStorageTraits.layers (found (text key.now) (S.ReadableStorageTraits.contents store.now)) range result out.old out.new }
 {
-    let mut notes = [Note::Bytes(Place { start: 0, len: 0 })];
+    let mut notes = [Ok(Place { start: 0, len: 0 })];
     let read = store.get_partial_many(key, &[range], out, &mut notes)?;
-    match notes[0] {
-        Note::Bytes(_) => Ok(read),
-        Note::Fault(e) => Err(Fault::from(e)),
-    }
+    notes[0]?;
+    Ok(read)
 }

@@ -4,4 +4,6 @@
 #[cfg(test)]
 mod exports;
 #[cfg(test)]
+mod fixture;
+#[cfg(test)]
 mod memory;

@@ -1,5 +1,5 @@
 -- A call that is written is read back as the same call.
-use Rattle.std.proofs.Common.{◌≡◌, ℕ, ◌+◌, ◌-◌, ◌/◌, ◌<◌, true, false, cond, eqb, [], ◌∷◌, ◌++◌, length, get_or, take, drop, Some, codes, sym, refl, ap, ◌∙◌, subst, ⊎_elim, append_assoc, arith}
+use Rattle.std.proofs.Common.{◌≡◌, ℕ, ◌+◌, ◌-◌, ◌/◌, ◌<◌, true, false, cond, eqb, [], ◌∷◌, ◌++◌, length, get_or, take, drop, Some, codes, sym, refl, ap, append_assoc, ◌∙◌, subst, ⊎_elim, arith}
 use Rattle.std.specs.List.{prefix_len, suffix_len, AllByRecursion}
 use Rattle.std.specs.Str.{bytes_eq}
 use Rattle.std.proofs.ByRecursion.{All-get_or}
@@ -114,7 +114,7 @@ export_back l v h b =
     (ap (λ t. eqb (length t) 0) w ∙ ne_eqb (length (label_text l)) 0 (λ z. omega arith))
     (sym (ap label_of w ∙ label_back l h))
     (sym (behind_then (label_text l) (value_text v) p s))
-    ∙ value_there (32 ∷ value_text v) (value_text v) (sym (trimmed_value v)) l (Some v) (value_some v) (sym b))
+    ∙ value_there (32 ∷ value_text v) (value_text v) (sym (trimmed_value v)) l (Some v) (ne_eqb (length (value_text v)) 0 (value_some v)) (sym b))
 
 pub read_back : (l : Bytes) → LabelFits l → line_says (written (reading l)) ≡ asks (reading l)
 unfolding written first_word behind_word trimmed
@@ -135,7 +135,6 @@ pub list_back : line_says (written listing) ≡ asks listing
 unfolding written first_word behind_word trimmed
 list_back = sym (finish_done [] [] refl listing refl ∙ line_asks (codes "list") (codes "list") [] refl refl refl)
 
--- the parts of a call, one behind the other
 module _ (o a d l : Bytes) where
   pub export_put : (b e v : Bytes) → a ≡ o ++ codes "export " → b ≡ a ++ label_text l → d ≡ b ++ (32 ∷ []) → e ≡ d ++ value_text v → e ≡ o ++ written (exporting l v)
   unfolding written

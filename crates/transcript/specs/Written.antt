@@ -1,6 +1,6 @@
 -- How values and calls are written, so that a script reads them back.
 use Rattle.std.specs.Prelude.{◌≡◌, ℕ, Bool, true, cond, not, ◌&&◌, [], ◌∷◌, ◌++◌, length, codes, ◌==◌, ◌≢◌, nat_le}
-use Rattle.std.specs.List.{AllByRecursion}
+use Rattle.std.specs.List.{AllByRecursion, list_all}
 use Rattle.script.specs.Words.{Bytes, plain}
 use Rattle.script.specs.Hex.{hex}
 use Rattle.script.specs.Values.{quote, hex_mark}
@@ -12,8 +12,7 @@ shown_byte b = (nat_le 32 b && nat_le b 126) && not (b == quote)
 
 -- every byte is shown as it stands
 abbrev pub printable : Bytes → Bool
-printable [] = true
-printable (b ∷ t) = shown_byte b && printable t
+printable t = list_all shown_byte t
 
 -- a value: text in quotes if it is printable, else pairs of digits
 unfoldable pub value_text : Bytes → Bytes

@@ -1,5 +1,5 @@
 //! How a call was answered, and the lines that say so.
-ghost use Rattle.std.specs.Prelude.{◌≡◌, ◌++◌, decimal, OnOk};
+ghost use Rattle.std.specs.Prelude.{◌≡◌, ◌++◌, Some, IfSome, OnOk};
 ghost use Rattle.std.specs.List.{flat_map};
 ghost use Rattle.keys.specs.StoreKeys.{text};
 ghost use Rattle.script.specs.Commands.{call_of, mistake_of};
@@ -9,9 +9,11 @@ ghost use Rattle.transcript.specs.Written.{label_text};
 use crate::write::{write_label, write_value};
 use keys::store_key::StoreKey;
 use script::command::{Command, ParseError};
-use std::alloc::{AllocError, Global};
+use std::alloc::AllocError;
+use std::fmt;
 
-/// A refusal: its number, how many layers below the called one it arose, and the step of an export.
+/// A refusal, in the numbers that a line says: which it is, how many layers below the called one it arose,
+/// and the step of an export.
 #[derive(Clone, Copy)]
 pub struct Refusal {
     pub number: u8,
@@ -34,65 +36,58 @@ pub enum Answer {
     Keys(Vec<StoreKey>),
 }
 
-/// Writes a number in decimal.
-pub(crate) fn write_number(out: &mut Vec<u8>, n: u64, heap: Global) -> Result<(), AllocError>
-    ensures { OnOk result (out.new.items ≡ out.old.items ++ decimal n) }
-{
-    let digits = format!(in heap; "{n}")?;
-    out.extend_from_slice(digits.as_bytes())
-}
+impl fmt::Display for Refusal {
+    ghost output = { λ r. Some (refusal_text r) };
 
-/// Writes a number and what is counted, with an `s` unless there is one.
-pub(crate) fn write_count(
-    out: &mut Vec<u8>,
-    n: u64,
-    what: &str,
-    heap: Global,
-) -> Result<(), AllocError>
-    ensures { OnOk result (out.new.items ≡ out.old.items ++ count_text n what.now) }
-{
-    if n == 1 {
-        let text = format!(in heap; "{n} {what}")?;
-        out.extend_from_slice(text.as_bytes())?;
-        return Ok(());
+    fn fmt<W: fmt::Write>(&self, f: &mut fmt::Formatter<W>) -> fmt::Result {
+        let Refusal {
+            number,
+            layer,
+            step,
+        } = *self;
+        write!(f, "refused {number}, layer {layer}, step {step}")
     }
-    let text = format!(in heap; "{n} {what}s")?;
-    out.extend_from_slice(text.as_bytes())?;
-    Ok(())
 }
 
-/// Writes a refusal: its number, its layer and its step.
-fn write_refusal(out: &mut Vec<u8>, refusal: Refusal, heap: Global) -> Result<(), AllocError>
-    ensures { OnOk result (out.new.items ≡ out.old.items ++ refusal_text refusal) }
+/// A number and what is counted.
+#[derive(Clone, Copy)]
+pub(crate) struct Count<'a>(pub u64, pub &'a str);
+
+impl fmt::Display for Count<'_> {
+    ghost output = { λ c. Some (count_text c.0 c.1.now) };
+
+    fn fmt<W: fmt::Write>(&self, f: &mut fmt::Formatter<W>) -> fmt::Result {
+        let Count(number, what) = *self;
+        if number == 1 {
+            write!(f, "{number} {what}")
+        } else {
+            write!(f, "{number} {what}s")
+        }
+    }
+}
+
+/// Writes what is shown of a value.
+pub(crate) fn write_shown<D: fmt::Display + Drop>(
+    out: &mut Vec<u8>,
+    shown: D,
+) -> Result<(), AllocError>
+    ensures { OnOk result (IfSome (D.output shown) (λ text. out.new.items ≡ out.old.items ++ text)) }
 {
-    let Refusal {
-        number,
-        layer,
-        step,
-    } = refusal;
-    let text = format!(in heap; "refused {number}, layer {layer}, step {step}")?;
+    let text = format!(in *out.allocator(); "{shown}")?;
     out.extend_from_slice(text.as_bytes())
-}
-
-/// Writes two texts.
-fn write_both(out: &mut Vec<u8>, front: &[u8], back: &[u8]) -> Result<(), AllocError>
-    ensures { OnOk result (out.new.items ≡ out.old.items ++ (front.now ++ back.now)) }
-{
-    out.extend_from_slice(front)?;
-    out.extend_from_slice(back)?;
-    Ok(())
 }
 
 /// Writes what is wrong with a line, with the bytes that it is about.
 pub(crate) fn write_mistake(out: &mut Vec<u8>, error: &ParseError) -> Result<(), AllocError>
     ensures { OnOk result (out.new.items ≡ out.old.items ++ mistake_text (mistake_of error.now)) }
 {
+    out.extend_from_slice(error.name().as_bytes())?;
     match error {
-        ParseError::UnknownWord(word) => write_both(out, b"unknown word ", word),
-        ParseError::ExtraText(text) => write_both(out, b"extra text ", text),
-        ParseError::NoLabel => out.extend_from_slice(b"no label"),
-        ParseError::NoValue => out.extend_from_slice(b"no value"),
-        ParseError::BadValue => out.extend_from_slice(b"bad value"),
+        ParseError::UnknownWord(bytes) | ParseError::ExtraText(bytes) => {
+            out.push(b' ')?;
+            out.extend_from_slice(bytes)
+        }
+        ParseError::NoLabel | ParseError::NoValue | ParseError::BadValue => Ok(()),
     }
 }
 
@@ -101,8 +96,7 @@ fn write_labelled(out: &mut Vec<u8>, front: &[u8], label: &[u8]) -> Result<(), A
     ensures { OnOk result (out.new.items ≡ out.old.items ++ (front.now ++ label_text label.now)) }
 {
     out.extend_from_slice(front)?;
-    write_label(out, label)?;
-    Ok(())
+    write_label(out, label)
 }
 
 /// Writes a call, less its value.
@@ -127,46 +121,39 @@ fn write_keys(out: &mut Vec<u8>, keys: &[StoreKey]) -> Result<(), AllocError>
 }
 
 /// Writes a value with the number of its bytes.
-fn write_sized(out: &mut Vec<u8>, value: &[u8], heap: Global) -> Result<(), AllocError>
+fn write_sized(out: &mut Vec<u8>, value: &[u8]) -> Result<(), AllocError>
     ensures { OnOk result (out.new.items ≡ out.old.items ++ sized_text value.now) }
 {
-    write_count(out, value.len() as u64, "byte", heap)?;
+    write_shown(out, Count(value.len() as u64, "byte"))?;
     out.push(b' ')?;
-    write_value(out, value)?;
-    Ok(())
+    write_value(out, value)
 }
 
 /// Writes keys with their number.
-fn write_counted(out: &mut Vec<u8>, keys: &[StoreKey], heap: Global) -> Result<(), AllocError>
+fn write_counted(out: &mut Vec<u8>, keys: &[StoreKey]) -> Result<(), AllocError>
     ensures { OnOk result (out.new.items ≡ out.old.items ++ counted_text keys.now) }
 {
-    write_count(out, keys.len() as u64, "key", heap)?;
-    write_keys(out, keys)?;
-    Ok(())
+    write_shown(out, Count(keys.len() as u64, "key"))?;
+    write_keys(out, keys)
 }
 
 /// Writes how many bytes were exported.
-fn write_done(out: &mut Vec<u8>, n: usize, heap: Global) -> Result<(), AllocError>
+fn write_done(out: &mut Vec<u8>, n: usize) -> Result<(), AllocError>
     ensures { OnOk result (out.new.items ≡ out.old.items ++ done_text n) }
 {
     out.extend_from_slice(b"done, ")?;
-    write_count(out, n as u64, "byte", heap)?;
-    Ok(())
+    write_shown(out, Count(n as u64, "byte"))
 }
 
 /// Writes how a call was answered.
-pub(crate) fn write_answer(
-    out: &mut Vec<u8>,
-    answer: &Answer,
-    heap: Global,
-) -> Result<(), AllocError>
+pub(crate) fn write_answer(out: &mut Vec<u8>, answer: &Answer) -> Result<(), AllocError>
     ensures { OnOk result (out.new.items ≡ out.old.items ++ answer_text answer.now) }
 {
     match answer {
-        Answer::Done(n) => write_done(out, *n, heap),
-        Answer::Refused(refusal) => write_refusal(out, *refusal, heap),
-        Answer::Value(value) => write_sized(out, value.as_slice(), heap),
+        Answer::Done(n) => write_done(out, *n),
+        Answer::Refused(refusal) => write_shown(out, *refusal),
+        Answer::Value(value) => write_sized(out, value.as_slice()),
         Answer::Absent => out.extend_from_slice(b"absent"),
-        Answer::Keys(keys) => write_counted(out, keys.as_slice(), heap),
+        Answer::Keys(keys) => write_counted(out, keys.as_slice()),
     }
 }

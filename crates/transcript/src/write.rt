@@ -6,25 +6,20 @@ ghost use Rattle.transcript.specs.Written.{shown_byte, printable, value_text, la
 
 use script::command::Command;
 use script::hex::encode;
-use std::alloc::{AllocError, Global};
+use std::alloc::AllocError;
 
 /// True for printable ASCII other than a quote.
 fn is_shown(b: u8) -> bool
     ensures { result ≡ shown_byte b }
 {
-    b >= b' ' && b <= b'~' && b != b'"'
+    matches!(b, b' '..=b'~') && b != b'"'
 }
 
 /// True if each byte is printable ASCII other than a quote.
 fn is_printable(bytes: &[u8]) -> bool
     ensures { result ≡ printable bytes.now }
 {
-    for b in bytes {
-        if !is_shown(*b) {
-            return false;
-        }
-    }
-    true
+    bytes.iter().all(|b| is_shown(*b))
 }
 
 /// Writes a value: text in quotes where it is printable, else `x` and pairs of hexadecimal digits.
@@ -35,11 +30,11 @@ fn put_value(out: &mut Vec<u8>, bytes: &[u8]) -> Result<(), AllocError>
         out.push(b'"')?;
         out.extend_from_slice(bytes)?;
         out.push(b'"')?;
-        return Ok(());
+        Ok(())
+    } else {
+        out.push(b'x')?;
+        encode(bytes, out)
     }
-    out.push(b'x')?;
-    encode(bytes, out)?;
-    Ok(())
 }
 
 /// Writes a value: text in quotes where it is printable, else `x` and pairs of hexadecimal digits.
@@ -55,11 +50,11 @@ pub fn write_value(out: &mut Vec<u8>, bytes: &[u8]) -> Result<(), AllocError>
 pub(crate) fn write_label(out: &mut Vec<u8>, label: &[u8]) -> Result<(), AllocError>
     ensures { OnOk result (out.new.items ≡ out.old.items ++ label_text label.now) }
 {
-    if label.len() == 0 {
-        out.extend_from_slice(b"\"\"")?;
-        return Ok(());
+    if label.is_empty() {
+        out.extend_from_slice(b"\"\"")
+    } else {
+        out.extend_from_slice(label)
     }
-    out.extend_from_slice(label)
 }
 
 /// Writes an export.
@@ -69,8 +64,7 @@ fn write_export(out: &mut Vec<u8>, label: &[u8], bytes: &[u8]) -> Result<(), All
     out.extend_from_slice(b"export ")?;
     write_label(out, label)?;
     out.push(b' ')?;
-    write_value(out, bytes)?;
-    Ok(())
+    write_value(out, bytes)
 }
 
 /// Writes a reading.
@@ -78,23 +72,19 @@ fn write_read(out: &mut Vec<u8>, label: &[u8]) -> Result<(), AllocError>
     ensures { OnOk result (WrittenAs (reading label.now) out.old.items out.new.items) }
 {
     out.extend_from_slice(b"read ")?;
-    write_label(out, label)?;
-    Ok(())
+    write_label(out, label)
 }
 
 /// Writes a command as a line of a script, which reads back as the same call.
-pub fn write_command(out: &mut Vec<u8>, command: &Command, heap: Global) -> Result<(), AllocError>
+pub fn write_command(out: &mut Vec<u8>, command: &Command) -> Result<(), AllocError>
     ensures { OnOk result (WrittenAs (call_of command.now) out.old.items out.new.items) }
 {
     match command {
         Command::Export { label, value } => {
-            let bytes = value.to_bytes(heap)?;
+            let bytes = value.to_bytes(*out.allocator())?;
             write_export(out, label, bytes.as_slice())
         }
         Command::Read { label } => write_read(out, label),
-        Command::List => {
-            out.extend_from_slice(b"list")?;
-            Ok(())
-        }
+        Command::List => out.extend_from_slice(b"list"),
     }
 }

@@ -1,17 +1,17 @@
 use keys::store_key::StoreKey;
 use storage::fault::Fault;
 
-/// The number, index, layer and step of a refusal, zeros where the call is done.
-pub(crate) fn told(r: Result<(), Fault>) -> (u8, usize, u16, u8) {
-    match r {
-        Ok(()) => (0, 0, 0, 0),
-        Err(f) => (f.cause.number(), f.index, f.depth, f.step),
-    }
+/// The key of this text, the root key where the text is none.
+pub(crate) fn key(text: &[u8]) -> StoreKey {
+    StoreKey::new(text).unwrap_or(StoreKey::root())
 }
 
-pub(crate) fn key(text: &[u8]) -> StoreKey {
-    match StoreKey::new(text) {
-        Ok(key) => key,
-        Err(_) => StoreKey::root(),
-    }
+/// The number, index, layer and step of a refusal.
+pub(crate) fn refusal(f: Fault) -> (u8, usize, u16, u8) {
+    (f.cause.number(), f.index, f.depth, f.step)
+}
+
+/// The number and layer of a refusal.
+pub(crate) fn depth(f: Fault) -> (u8, u16) {
+    (f.cause.number(), f.depth)
 }

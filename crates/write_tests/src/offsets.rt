@@ -1,4 +1,4 @@
-use crate::fixture::{key, told};
+use crate::fixture::{depth, key, refusal};
 use atomic_write::atomic_write::AtomicWriteStorageAdapter;
 use layers::countdown::Countdown;
 use memory_store::memory_store::MemoryStore;
@@ -14,11 +14,13 @@ use storage::storage_sync::writes::WritableStorageTraits;
 fn patches_are_laid_in_place(rt: HostRuntime) -> Result<(), Fail> {
     let mut store = MemoryStore::new(rt.alloc())?;
     let mut out = [0u8; 8];
-    let set = told(store.set(&key(b"a"), &[1, 2, 3, 4]));
-    let inside = told(set_partial(&mut store, &key(b"a"), 1, &[9], &mut []));
-    let behind = told(set_partial(&mut store, &key(b"a"), 6, &[7], &mut []));
-    let zeros = told(set_partial(&mut store, &key(b"z"), 5, &[], &mut []));
-    let none = told(store.set_partial_many(&key(b"n"), &[], &[], &mut []));
+    let set = store.set(&key(b"a"), &[1, 2, 3, 4]).map_err(refusal);
+    let inside = set_partial(&mut store, &key(b"a"), 1, &[9], &mut []).map_err(refusal);
+    let behind = set_partial(&mut store, &key(b"a"), 6, &[7], &mut []).map_err(refusal);
+    let zeros = set_partial(&mut store, &key(b"z"), 5, &[], &mut []).map_err(refusal);
+    let none = store
+        .set_partial_many(&key(b"n"), &[], &[], &mut [])
+        .map_err(refusal);
     let _ = get(&store, &key(b"a"), &mut out);
     let sizes = (
         store.size_key(&key(b"a")),
@@ -26,11 +28,11 @@ fn patches_are_laid_in_place(rt: HostRuntime) -> Result<(), Fail> {
         store.size_key(&key(b"n")),
     );
     drop(store);
-    assert_eq!(rt; set, (0, 0, 0, 0));
-    assert_eq!(rt; inside, (0, 0, 0, 0));
-    assert_eq!(rt; behind, (0, 0, 0, 0));
-    assert_eq!(rt; zeros, (0, 0, 0, 0));
-    assert_eq!(rt; none, (0, 0, 0, 0));
+    assert_eq!(rt; set, Ok(()));
+    assert_eq!(rt; inside, Ok(()));
+    assert_eq!(rt; behind, Ok(()));
+    assert_eq!(rt; zeros, Ok(()));
+    assert_eq!(rt; none, Ok(()));
     assert_eq!(rt; out, [1, 9, 3, 4, 0, 0, 7, 0]);
     assert_eq!(rt; sizes, (Some(7), Some(5), None));
     Ok(())
@@ -39,14 +41,14 @@ fn patches_are_laid_in_place(rt: HostRuntime) -> Result<(), Fail> {
 #[test]
 fn an_offset_write_may_find_no_space(rt: HostRuntime) -> Result<(), Fail> {
     let mut store = MemoryStore::new(rt.alloc())?;
-    let most = told(set_partial(&mut store, &key(b"a"), 32767, &[1], &mut []));
-    let over = told(set_partial(&mut store, &key(b"a"), 32768, &[1], &mut []));
-    let far = told(set_partial(&mut store, &key(b"a"), u64::MAX, &[1], &mut []));
+    let most = set_partial(&mut store, &key(b"a"), 32767, &[1], &mut []).map_err(refusal);
+    let over = set_partial(&mut store, &key(b"a"), 32768, &[1], &mut []).map_err(refusal);
+    let far = set_partial(&mut store, &key(b"a"), u64::MAX, &[1], &mut []).map_err(refusal);
     let size = store.size_key(&key(b"a"));
     drop(store);
-    assert_eq!(rt; most, (0, 0, 0, 0));
-    assert_eq!(rt; over, (8, 0, 0, 0));
-    assert_eq!(rt; far, (8, 0, 0, 0));
+    assert_eq!(rt; most, Ok(()));
+    assert_eq!(rt; over, Err((8, 0, 0, 0)));
+    assert_eq!(rt; far, Err((8, 0, 0, 0)));
     assert_eq!(rt; size, Some(32768));
     Ok(())
 }
@@ -64,13 +66,19 @@ fn patches_are_asked_before_the_device(rt: HostRuntime) -> Result<(), Fail> {
         len: 1,
     };
     let mut store = Countdown::new(MemoryStore::new(rt.alloc())?, 0, 0);
-    let many = told(store.set_partial_many(&key(b"a"), &[patch; 65], &[1], &mut []));
-    let place = told(store.set_partial_many(&key(b"a"), &[patch, outside], &[1], &mut []));
-    let device = told(store.set_partial_many(&key(b"a"), &[patch], &[1], &mut []));
+    let many = store
+        .set_partial_many(&key(b"a"), &[patch; 65], &[1], &mut [])
+        .map_err(refusal);
+    let place = store
+        .set_partial_many(&key(b"a"), &[patch, outside], &[1], &mut [])
+        .map_err(refusal);
+    let device = store
+        .set_partial_many(&key(b"a"), &[patch], &[1], &mut [])
+        .map_err(refusal);
     drop(store.into_inner());
-    assert_eq!(rt; many, (6, 0, 0, 0));
-    assert_eq!(rt; place, (6, 1, 0, 0));
-    assert_eq!(rt; device, (10, 0, 0, 0));
+    assert_eq!(rt; many, Err((6, 0, 0, 0)));
+    assert_eq!(rt; place, Err((6, 1, 0, 0)));
+    assert_eq!(rt; device, Err((10, 0, 0, 0)));
     Ok(())
 }
 
@@ -84,15 +92,23 @@ fn through_a_work_buffer(rt: HostRuntime) -> Result<(), Fail> {
     };
     let mut short = [5u8; 2];
     let mut work = [5u8; 4];
-    let refused = told(store_set_partial_many(&mut store, &key(b"a"), &[patch], &[9], &mut short));
-    let empty = told(store_set_partial_many(&mut store, &key(b"e"), &[], &[], &mut []));
-    let device = told(store_set_partial_many(&mut store, &key(b"a"), &[patch], &[9], &mut work));
+    let refused = store_set_partial_many(
+        &mut store,
+        &key(b"a"),
+        &[patch],
+        &[9],
+        &mut short,
+    ).map_err(refusal);
+    let empty = store_set_partial_many(&mut store, &key(b"e"), &[], &[], &mut []).map_err(refusal);
+    let device = store_set_partial_many(&mut store, &key(b"a"), &[patch], &[9], &mut work).map_err(
+        refusal,
+    );
     let sizes = (store.size_key(&key(b"e")), store.size_key(&key(b"a")));
     drop(store.into_inner());
-    assert_eq!(rt; refused, (9, 0, 0, 0));
+    assert_eq!(rt; refused, Err((9, 0, 0, 0)));
     assert_eq!(rt; short, [5, 5]);
-    assert_eq!(rt; empty, (0, 0, 0, 0));
-    assert_eq!(rt; device, (10, 0, 0, 0));
+    assert_eq!(rt; empty, Ok(()));
+    assert_eq!(rt; device, Err((10, 0, 0, 0)));
     assert_eq!(rt; work, [0, 0, 9, 5]);
     assert_eq!(rt; sizes, (Some(0), None));
     Ok(())
@@ -106,23 +122,27 @@ fn an_export_of_patches(rt: HostRuntime) -> Result<(), Fail> {
         9,
     ));
     let mut work = [5u8; 4];
-    let set = told(exports.set(&key(b"a"), &[1, 2]));
+    let set = exports.set(&key(b"a"), &[1, 2]).map_err(refusal);
     let patch = Patch {
         offset: 1,
         start: 0,
         len: 2,
     };
-    let cut = told(exports.set_partial_many(&key(b"a"), &[patch], &[8, 9], &mut work));
+    let cut = exports
+        .set_partial_many(&key(b"a"), &[patch], &[8, 9], &mut work)
+        .map_err(refusal);
     let stands = exports.size_key(&key(b"a.tmp"));
     exports.power_on();
     let mut again = [5u8; 4];
-    let blocked = told(exports.set_partial_many(&key(b"a"), &[patch], &[8, 9], &mut again));
+    let blocked = exports
+        .set_partial_many(&key(b"a"), &[patch], &[8, 9], &mut again)
+        .map_err(refusal);
     drop(exports.into_inner().into_inner());
-    assert_eq!(rt; set, (0, 0, 0, 0));
-    assert_eq!(rt; cut, (10, 0, 1, 2));
+    assert_eq!(rt; set, Ok(()));
+    assert_eq!(rt; cut, Err((10, 0, 1, 2)));
     assert_eq!(rt; work, [1, 8, 9, 5]);
     assert_eq!(rt; stands, Some(3));
-    assert_eq!(rt; blocked, (7, 0, 0, 0));
+    assert_eq!(rt; blocked, Err((7, 0, 0, 0)));
     assert_eq!(rt; again, [1, 8, 9, 5]);
     Ok(())
 }
@@ -130,23 +150,19 @@ fn an_export_of_patches(rt: HostRuntime) -> Result<(), Fail> {
 #[test]
 fn one_range_is_read(rt: HostRuntime) -> Result<(), Fail> {
     let mut store = Countdown::new(MemoryStore::new(rt.alloc())?, 9, 9);
-    let set = told(store.set(&key(b"a"), &[1, 2, 3]));
+    let set = store.set(&key(b"a"), &[1, 2, 3]).map_err(refusal);
     let mut out = [7u8; 2];
-    let unfit = match get_partial(&store, &key(b"a"), ByteRange::Suffix(4), &mut out) {
-        Err(f) => (f.cause.number(), f.depth),
-        Ok(_) => (0, 0),
-    };
-    let short = match get_partial(&store, &key(b"a"), ByteRange::FromStart(0, None), &mut out) {
-        Err(f) => (f.cause.number(), f.depth),
-        Ok(_) => (0, 0),
-    };
+    let unfit = get_partial(&store, &key(b"a"), ByteRange::Suffix(4), &mut out).map_err(depth);
+    let short = get_partial(&store, &key(b"a"), ByteRange::FromStart(0, None), &mut out).map_err(
+        depth,
+    );
     let untouched = out;
     let read = get_partial(&store, &key(b"a"), ByteRange::Suffix(2), &mut out).is_ok();
     let absent = get_partial(&store, &key(b"b"), ByteRange::Suffix(2), &mut out).is_ok();
     drop(store.into_inner());
-    assert_eq!(rt; set, (0, 0, 0, 0));
-    assert_eq!(rt; unfit, (4, 0));
-    assert_eq!(rt; short, (9, 1));
+    assert_eq!(rt; set, Ok(()));
+    assert_eq!(rt; unfit, Err((4, 0)));
+    assert_eq!(rt; short, Err((9, 1)));
     assert_eq!(rt; untouched, [7, 7]);
     assert!(rt; read);
     assert!(rt; absent);

@@ -33,13 +33,12 @@ impl<S: AtomicRenameStorageTraits> AtomicWriteStorageAdapter<S> {
         if self.storage.size_key(temporary).is_some() {
             return Err(Fault::own(Cause::Exists));
         }
-        if let Err(f) = self.storage.set(temporary, value) {
-            return Err(f.raised().at_step(1));
-        }
-        match self.storage.rename(temporary, key) {
-            Ok(()) => Ok(()),
-            Err(f) => Err(f.raised().at_step(2)),
-        }
+        self.storage
+            .set(temporary, value)
+            .map_err(|f| f.raised().at_step(1))?;
+        self.storage
+            .rename(temporary, key)
+            .map_err(|f| f.raised().at_step(2))
     }
 }
 
@@ -77,20 +76,14 @@ impl<S: AtomicRenameStorageTraits> WritableStorageTraits for AtomicWriteStorageA
         ensures wrote { Wrote (over false S.ReadableStorageTraits) (erase (text key.now)) result self.old self.new }
         ensures forwarded { Wrote (over S.ReadableStorageTraits.tidy S.ReadableStorageTraits) (erase (text key.now)) result self.old self.new }
     {
-        match self.storage.erase(key) {
-            Ok(()) => Ok(()),
-            Err(f) => Err(f.raised()),
-        }
+        self.storage.erase(key).map_err(Fault::raised)
     }
 
     fn erase_prefix(&mut self, prefix: &StorePrefix) -> Result<(), Fault>
         ensures wrote { Wrote (over false S.ReadableStorageTraits) (erase_prefix (prefix_text prefix.now)) result self.old self.new }
         ensures forwarded { Wrote (over S.ReadableStorageTraits.tidy S.ReadableStorageTraits) (erase_prefix (prefix_text prefix.now)) result self.old self.new }
     {
-        match self.storage.erase_prefix(prefix) {
-            Ok(()) => Ok(()),
-            Err(fault) => Err(fault.raised()),
-        }
+        self.storage.erase_prefix(prefix).map_err(Fault::raised)
     }
 
     fn power_on(&mut self) {

@@ -1,6 +1,6 @@
 use Rattle.std.proofs.Common.{◌+◌, get_or, set, None, refl, ap, ◌∙◌, arith}
 use Rattle.ranges.specs.declared.byte_range.ByteRange.TheVariants.{FromStart}
-use Rattle.extraction.specs.declared.Note.{Note}
+use Rattle.extraction.specs.Notes.{Note}
 use Rattle.extraction.specs.Extracts.{note_at, notes_from}
 use Rattle.extraction.proofs.Items.{length-items_more, length-items-take, noted_more, noted_all}
 use Rattle.extraction.proofs.note_ranges.Goals as goal
@@ -16,7 +16,7 @@ overflow_add-at c =
     let i = c.loop-i.i in
     let m = length-items_more b rs i (FromStart 0 None) c.loop-i-test.true in
     let t = length-items-take b rs (i + 1) in
-    omega (arith, m, t, c.loop-i.invariant.0, c.requires.fit, c.picked_len-len.ensures)
+    omega (arith, m, t, c.loop-i.invariant.0, c.requires.fit, c.picked_len-at.ensures)
 
 pub loop-i-preserved : goal.loop-i-preserved
 loop-i-preserved c =
@@ -26,7 +26,7 @@ loop-i-preserved c =
     let d = FromStart 0 None in
     let m = length-items_more b rs i d c.loop-i-test.true in
     let n = c.note_of.ensures ∙ ap (λ at. note_at at b (get_or rs i d)) c.loop-i.invariant.0 in (
-      omega (arith, m, c.loop-i.invariant.0, c.picked_len-len.ensures),
+      omega (arith, m, c.loop-i.invariant.0, c.picked_len-at.ensures),
       ap (λ (x : Note). set c.loop-i.notes i x) n
           ∙ noted_more b rs i d c.args.notes.now c.loop-i.notes c.loop-i-test.true (omega (arith, c.requires.space, c.loop-i-test.true)) c.loop-i.invariant.1,
     )

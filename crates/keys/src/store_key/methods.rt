@@ -3,7 +3,7 @@ ghost use Rattle.keys.specs.Text.{KeyText};
 ghost use Rattle.keys.specs.StoreKeys.{text, key_fault, MadeKey};
 
 use super::{MAX_KEY_LEN, StoreKey, StoreKeyError};
-use crate::buffer::lay;
+use crate::short_text::ShortText;
 use crate::text::keeps_key_rule;
 
 impl StoreKeyError {
@@ -26,7 +26,9 @@ impl StoreKey {
     pub fn root() -> Self
         ensures { text result ≡ [] }
     {
-        StoreKey::filled(&[])
+        StoreKey {
+            text: ShortText::of(&[], &[]),
+        }
     }
 
     /// The key of these bytes.
@@ -36,10 +38,7 @@ impl StoreKey {
         if bytes.len() > MAX_KEY_LEN {
             return Err(StoreKeyError::TooLong);
         }
-        if !StoreKey::validate(bytes) {
-            return Err(StoreKeyError::Invalid);
-        }
-        Ok(StoreKey::filled(bytes))
+        StoreKey::checked(ShortText::of(bytes, &[]))
     }
 
     /// True if the bytes keep the rule of keys, however many they are.
@@ -53,32 +52,27 @@ impl StoreKey {
     pub fn joined(&self, suffix: &[u8]) -> Result<Self, StoreKeyError>
         ensures { MadeKey (text self.now ++ suffix.now) result }
     {
-        let room = MAX_KEY_LEN - self.len;
+        let room = MAX_KEY_LEN - self.as_bytes().len();
         if suffix.len() > room {
             return Err(StoreKeyError::TooLong);
         }
-        let mut all = [0; 120];
-        lay(&mut all, self.as_bytes(), suffix);
-        StoreKey::new(&all[0..self.len + suffix.len()])
+        StoreKey::checked(ShortText::of(self.as_bytes(), suffix))
     }
 
     /// The key's bytes.
     pub fn as_bytes(&self) -> &[u8]
         ensures { result.now ≡ text self.now }
     {
-        &self.bytes[0..self.len]
+        self.text.as_bytes()
     }
 
-    /// The key of bytes that keep the rule, or are none.
-    fn filled(bytes: &[u8]) -> Self
-        requires { (length bytes.now ≤ 120) × ((0 < length bytes.now → KeyText bytes.now)) }
-        ensures { text result ≡ bytes.now }
+    /// The key of a text, if it keeps the rule.
+    fn checked(text: ShortText<120>) -> Result<Self, StoreKeyError>
+        ensures { MadeKey text result }
     {
-        let mut all = [0; 120];
-        lay(&mut all, bytes, &[]);
-        StoreKey {
-            bytes: all,
-            len: bytes.len(),
+        if !StoreKey::validate(text.as_bytes()) {
+            return Err(StoreKeyError::Invalid);
         }
+        Ok(StoreKey { text })
     }
 }

@@ -1,16 +1,9 @@
 //! Keys in the order of their texts.
-ghost use Rattle.std.specs.Prelude.{◌≡◌, Decides};
-ghost use Rattle.std.specs.Str.{bytes_eq};
 ghost use Rattle.keys.specs.ByteOrder.{compare_bytes};
 ghost use Rattle.keys.specs.StoreKeys.{text};
 ghost use Rattle.keys.specs.StoreKeyTotalOrderLemmas.{laws};
-ghost use Rattle.std.specs.Cmp.Rules.{comparing};
-ghost use Rattle.std.proofs.Common.{rules, arith};
-ghost use Rattle.std.specs.Cmp.{partial_equiv_from_equiv};
-ghost use Rattle.std.specs.Ordering.{on};
 
 use super::StoreKey;
-use crate::text::{compare_bytes, same_bytes};
 use order::total_order::TotalOrder;
 use std::cmp::Ordering;
 
@@ -23,24 +16,8 @@ impl TotalOrder for StoreKey {
 
     ghost equal = { laws.equal };
 
+    #[tactic(auto, unfolding(crate::specs::ByteOrder::compare_bytes))]
     fn compare(&self, other: &Self) -> Ordering {
-        compare_bytes(self.as_bytes(), other.as_bytes())
+        self.cmp(other)
     }
-}
-
-impl PartialEq for StoreKey {
-    ghost eq = { on text bytes_eq };
-
-    ghost laws = { partial_equiv_from_equiv (Prim.search (comparing, rules)) };
-
-    fn eq(&self, other: &StoreKey) -> bool
-        ensures value { result ≡ bytes_eq (text self.now) (text other.now) }
-        ensures decides { Decides result (text self.now ≡ text other.now) }
-    {
-        same_bytes(self.as_bytes(), other.as_bytes())
-    }
-}
-
-impl Eq for StoreKey {
-    ghost laws = { Prim.search (comparing, rules) };
 }

@@ -29,15 +29,18 @@ impl StoreKey {
     {
         StorePrefix::parent_of(self.as_bytes())
     }
+}
 
-    /// The key of the prefix's bytes less the trailing slash; the root key for the root prefix.
-    pub fn from_prefix(prefix: &StorePrefix) -> Result<Self, StoreKeyError>
-        ensures { MadeKey (shortened (prefix_text prefix.now)) result }
-    {
-        let bytes = prefix.as_bytes();
-        if bytes.len() == 0 {
-            return Ok(StoreKey::root());
+/// The key of the prefix's bytes less the trailing slash; the root key for the root prefix.
+impl TryFrom<&StorePrefix> for StoreKey {
+    type Error = StoreKeyError;
+
+    ghost try_from_gives = { λ prefix r. MadeKey (shortened (prefix_text prefix.now)) r };
+
+    fn try_from(prefix: &StorePrefix) -> Result<Self, StoreKeyError> {
+        match prefix.as_bytes().split_last() {
+            Some((_, front)) => StoreKey::new(front),
+            None => Ok(StoreKey::root()),
         }
-        StoreKey::new(&bytes[0..bytes.len() - 1])
     }
 }

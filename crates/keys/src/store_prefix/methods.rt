@@ -3,8 +3,8 @@ ghost use Rattle.keys.specs.Text.{BeginsSlash, KeyText, PrefixText, as_prefix};
 ghost use Rattle.keys.specs.StorePrefixes.{prefix_text, prefix_fault, MadePrefix, ParentIs, ParentOf};
 
 use super::{MAX_PREFIX_LEN, StorePrefix, StorePrefixError};
-use crate::buffer::lay;
-use crate::text::{keeps_prefix_rule, parent_len};
+use crate::short_text::ShortText;
+use crate::text::{keeps_prefix_rule, parent_text};
 
 impl StorePrefixError {
     /// The number of this refusal.
@@ -53,17 +53,15 @@ impl StorePrefix {
     pub fn as_bytes(&self) -> &[u8]
         ensures { result.now ≡ prefix_text self.now }
     {
-        &self.bytes[0..self.len]
+        self.text.as_bytes()
     }
 
     /// The prefix through the last slash but one, or the root; none for the root.
     pub fn parent(&self) -> Option<Self>
         ensures { ParentOf (prefix_text self.now) result }
     {
-        if self.len == 0 {
-            return None;
-        }
-        Some(StorePrefix::parent_of(&self.bytes[0..self.len - 1]))
+        let (_, front) = self.as_bytes().split_last()?;
+        Some(StorePrefix::parent_of(front))
     }
 
     /// The parent of a text that doesn't begin with a slash: the text through its last slash.
@@ -71,7 +69,7 @@ impl StorePrefix {
         requires { (length text.now ≤ 121) × ((BeginsSlash text.now → ⊥)) }
         ensures { ParentIs text.now result }
     {
-        StorePrefix::joined(&text[0..parent_len(text)], &[])
+        StorePrefix::joined(parent_text(text), &[])
     }
 
     /// The prefix of a key's bytes: with a slash behind them, but for the root.
@@ -79,7 +77,7 @@ impl StorePrefix {
         requires { (length bytes.now ≤ 120) × (KeyText bytes.now) }
         ensures { prefix_text result ≡ as_prefix bytes.now }
     {
-        if bytes.len() == 0 {
+        if bytes.is_empty() {
             return StorePrefix::root();
         }
         StorePrefix::joined(bytes, b"/")
@@ -90,11 +88,8 @@ impl StorePrefix {
         requires { (length front.now + length back.now ≤ 121) × ((0 < length front.now + length back.now → PrefixText (front.now ++ back.now))) }
         ensures { prefix_text result ≡ front.now ++ back.now }
     {
-        let mut all = [0; 121];
-        lay(&mut all, front, back);
         StorePrefix {
-            bytes: all,
-            len: front.len() + back.len(),
+            text: ShortText::of(front, back),
         }
     }
 }

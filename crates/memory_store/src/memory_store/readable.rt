@@ -1,9 +1,6 @@
 ghost use Rattle.std.specs.Prelude.{true, refl};
 ghost use Rattle.memory_store.specs.Memory.{holds, ruling};
-ghost use Rattle.std.proofs.Common.{arith, ◌∙◌, ap};
-ghost use Rattle.storage.specs.Contents.{ascending};
-ghost use Rattle.memory_store.specs.Cuts.{keys_of-cut, lawful_cut, length_cut, total-cut};
-ghost use Rattle.memory_store.specs.Memories.{packed};
+ghost use Rattle.memory_store.specs.Memories.{sound};
 ghost use Rattle.storage.specs.Faults;
 ghost use Rattle.storage.specs.declared.fault.Cause.TheVariants.{Absent};
 
@@ -26,23 +23,12 @@ impl ReadableStorageTraits for MemoryStore {
 
     ghost layers = { 0 };
 
-    ghost sound = { λ m.
-        let ss = m.slots.items in
-        let row = m.row.items in
-        record {
-          ascends = ap ascending (keys_of-cut ss row) ∙ m.ordered;
-          lawful = lawful_cut ss row;
-          few = omega (arith, length_cut ss row, m.few, m.slots.ok.0);
-          small = omega (arith, total-cut ss row (omega (arith, (packed m).fills)), (packed m).fills, m.small, m.row.ok.0);
-        } };
+    ghost sound = { λ m. sound m.table };
 
     ghost absent = { λ m a b e. (Faults.own Absent, rw e refl) };
 
     fn size_key(&self, key: &StoreKey) -> Option<u64> {
-        match self.value(key) {
-            Some(value) => Some(value.len() as u64),
-            None => None,
-        }
+        self.table.value(key).map(|value| value.len() as u64)
     }
 
     fn get_partial_many(
@@ -52,7 +38,7 @@ impl ReadableStorageTraits for MemoryStore {
         out: &mut [u8],
         notes: &mut [Note],
     ) -> Result<Option<usize>, Fault> {
-        match self.value(key) {
+        match self.table.value(key) {
             Some(value) => Ok(Some(read_byte_ranges(value, ranges, out, notes)?)),
             None if ranges.len() > MAX_RANGES => Err(Fault::own(Cause::Limit)),
             None => Ok(None),
@@ -66,9 +52,6 @@ impl ReadableStorageTraits for MemoryStore {
 
 impl ListableStorageTraits for MemoryStore {
     fn key_at(&self, n: usize) -> Option<StoreKey> {
-        match self.slots.get(n) {
-            Some(slot) => Some(slot.key),
-            None => None,
-        }
+        self.table.key_at(n)
     }
 }

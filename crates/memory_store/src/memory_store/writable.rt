@@ -1,5 +1,4 @@
 use super::MemoryStore;
-use crate::table::{kept, patched, remove, remove_prefix, replace};
 use keys::store_key::StoreKey;
 use keys::store_prefix::StorePrefix;
 use patches::{Patch, check_patches};
@@ -9,11 +8,7 @@ use storage::storage_sync::writes::{AtomicRenameStorageTraits, WritableStorageTr
 
 impl WritableStorageTraits for MemoryStore {
     fn set(&mut self, key: &StoreKey, value: &[u8]) -> Result<(), Fault> {
-        if replace(&mut self.slots, &mut self.row, key, value) {
-            Ok(())
-        } else {
-            Err(Fault::own(Cause::Full))
-        }
+        self.table.replace(key, value)
     }
 
     fn set_partial_many(
@@ -27,23 +22,12 @@ impl WritableStorageTraits for MemoryStore {
         if patches.is_empty() {
             return Ok(());
         }
-        let Ok(n) = patched(
-            &self.slots,
-            &self.row,
-            key,
-            patches,
-            source,
-            &mut self.spare,
-        ) else {
+        let n = self
+            .table
+            .patched(key, patches, source, self.spare.as_mut_slice())
             // longer than all value bytes that the store holds
-            return Err(Fault::own(Cause::Full));
-        };
-        let laid = &self.spare.as_slice()[0..n];
-        if replace(&mut self.slots, &mut self.row, key, laid) {
-            Ok(())
-        } else {
-            Err(Fault::own(Cause::Full))
-        }
+            .map_err(|_| Fault::own(Cause::Full))?;
+        self.table.replace(key, &self.spare.as_slice()[..n])
     }
 
     fn supports_set_partial(&self) -> bool {
@@ -51,12 +35,12 @@ impl WritableStorageTraits for MemoryStore {
     }
 
     fn erase(&mut self, key: &StoreKey) -> Result<(), Fault> {
-        remove(&mut self.slots, &mut self.row, key);
+        self.table.remove(key);
         Ok(())
     }
 
     fn erase_prefix(&mut self, prefix: &StorePrefix) -> Result<(), Fault> {
-        remove_prefix(&mut self.slots, &mut self.row, prefix);
+        self.table.remove_prefix(prefix);
         Ok(())
     }
 
@@ -65,17 +49,12 @@ impl WritableStorageTraits for MemoryStore {
 
 impl AtomicRenameStorageTraits for MemoryStore {
     fn rename(&mut self, source: &StoreKey, destination: &StoreKey) -> Result<(), Fault> {
-        let Some(n) = kept(&self.slots, &self.row, source, &mut self.spare) else {
-            return Err(Fault::own(Cause::Absent));
-        };
-        remove(&mut self.slots, &mut self.row, source);
+        let n = self
+            .table
+            .copy_out(source, self.spare.as_mut_slice())
+            .ok_or(Fault::own(Cause::Absent))?;
+        self.table.remove(source);
         // as many bytes are free as are put, so that there is room
-        replace(
-            &mut self.slots,
-            &mut self.row,
-            destination,
-            &self.spare.as_slice()[0..n],
-        );
-        Ok(())
+        self.table.replace(destination, &self.spare.as_slice()[..n])
     }
 }

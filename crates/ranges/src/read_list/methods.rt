@@ -44,7 +44,7 @@ impl ReadList {
     pub fn get(&self, i: usize) -> Option<ByteRange>
         ensures { result ≡ slice_get (reads self.now) i }
     {
-        at(self.as_slice(), i)
+        self.as_slice().get(i).copied()
     }
 
     /// The ranges, in ascending order.
@@ -52,17 +52,6 @@ impl ReadList {
         ensures value { result.now ≡ reads self.now }
         ensures ascends { IsStrictlySortedBy compare_ranges result.now }
     {
-        &self.ranges[0..self.len]
-    }
-}
-
-// The range at an index; none past the last.
-fn at(ranges: &[ByteRange], i: usize) -> Option<ByteRange>
-    ensures { result ≡ slice_get ranges.now i }
-{
-    if i < ranges.len() {
-        Some(ranges[i])
-    } else {
-        None
+        &self.ranges[..self.len]
     }
 }

@@ -1,15 +1,8 @@
-use Rattle.std.proofs.Common.{arith, ltb-true}
-use Rattle.std.proofs.lemmas.Bool.Decides.{Decides-eqb, Decides-like}
-use Rattle.keys.specs.Texts.{ends_from, ends_at}
+use Rattle.std.proofs.Common.{length, drop, ◌-◌, [], ◌∷◌}
+use Rattle.keys.specs.Texts.{ends_decides}
 use Rattle.keys.proofs.text.ends_with_slash.Goals as goal
+use Rattle.std.proofs.lemmas.Slice.Eq.{bytes_eq-Decides}
+use Rattle.std.proofs.lemmas.Bool.Decides.{Decides-at}
 
-pub returns-then-text-gt0 : goal.returns-then-text-gt0
-returns-then-text-gt0 c =
-    Decides-like
-    _
-    (ends_from c.args.text.now c.if-text-gt0.true)
-    (λ h. (ends_at c.args.text.now h).1)
-    (Decides-eqb _ _)
-
-pub returns-else-text-gt0 : goal.returns-else-text-gt0
-returns-else-text-gt0 c = (λ t. absurd (omega (arith, ltb-true)), λ h. absurd (omega (arith, (ends_at c.args.text.now h).0)))
+pub returns : goal.returns
+returns c = ends_decides c.args.text.now c.ends_with.result (Decides-at _ _ c.ends_with.ensures.value (bytes_eq-Decides (47 ∷ []) (drop (length c.args.text.now - 1) c.args.text.now)))

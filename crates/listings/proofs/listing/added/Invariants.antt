@@ -1,11 +1,12 @@
-use Rattle.std.proofs.Common.{◌≡◌, ◌-◌, length, take, filter}
+use Rattle.std.proofs.Common.{◌≡◌, take, filter}
 use Rattle.keys.specs.StorePrefixes.{prefix_text}
 use Rattle.storage.specs.Contents.{total, under}
 use Rattle.listings.proofs.listing.added.Given as goal
 
--- the values of the keys below `n` are added
+-- the values of the keys below the iterator's place are added
 abbrev pub invariant-loop-key : goal.invariant-loop-key
-invariant-loop-key g l = l.size ≡ total (filter (λ e. under (prefix_text l.prefix) e.key) (take l.n (g.S.ReadableStorageTraits.contents l.store)))
-
-abbrev pub decreases-loop-key : goal.decreases-loop-key
-decreases-loop-key g l = length (g.S.ReadableStorageTraits.contents l.store) - l.n
+invariant-loop-key g l =
+    (goal.iterator-loop-key g).can_next l.key-iterator
+    × (goal.iterator-loop-key g).is_finite l.key-iterator
+    × (l.key-iterator.store.now ≡ l.store)
+    × (l.size ≡ total (filter (λ e. under (prefix_text l.prefix) e.key) (take l.key-iterator.next (g.S.ReadableStorageTraits.contents l.store))))

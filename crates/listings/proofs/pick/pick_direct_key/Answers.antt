@@ -1,12 +1,10 @@
-use Rattle.std.proofs.Common.{refl}
+use Rattle.std.proofs.Common.{rules}
+use Rattle.std.proofs.lemmas.Bool.Decides.{Decides-at}
+use Rattle.std.proofs.lemmas.Slice.Eq.{bytes_eq-Decides}
 use Rattle.keys.specs.StorePrefixesLemmas.{prefix_rule}
 use Rattle.keys.specs.Texts.{final_slash}
-use Rattle.storage.proofs.Order.{clash}
-use Rattle.listings.proofs.Children.{direct_yes, direct_no}
+use Rattle.listings.proofs.Children.{direct_then}
 use Rattle.listings.proofs.pick.pick_direct_key.Goals as goal
 
-pub returns-then-eq : goal.returns-then-eq
-returns-then-eq c = direct_yes _ _ _ _ c.parent.ensures (c.if-eq.ensures.decides.0 refl) c.from_key.ensures
-
-pub returns-else-eq : goal.returns-else-eq
-returns-else-eq c = direct_no _ _ _ (final_slash _ (prefix_rule c.args.prefix.now)) c.parent.ensures (λ e. clash _ (c.if-eq.ensures.decides.1 e) refl)
+pub returns : goal.returns
+returns c = direct_then _ _ _ _ _ (final_slash _ (prefix_rule c.args.prefix.now)) c.parent.ensures (Decides-at _ _ c.eq.ensures (bytes_eq-Decides _ _)) c.then.ensures.variant (search (rules, c.then.ensures.some))

@@ -8,8 +8,9 @@ returns c =
     let ok : is_ok c.extend_from_slice.result ≡ true = c.extend_from_slice.ensures.succeeds c.requires.room in
     record {
       items =
-          refilled _ _ _ (c.open_at.auto.s ∙ c.as_mut_slice.ensures.len)
-          ∙ opened _ _ _ _ c.args.at (search rules) (c.as_mut_slice.ensures.value ∙ (c.extend_from_slice.ensures.items ∙ cond-true _ _ _ ok)) c.open_at.ensures;
+          refilled _ _ _ (c.overwrite.auto.s ∙ c.as_mut_slice.ensures.len)
+          ∙ opened c.args.row.now.items c.args.value.now c.extend_from_slice.new.self.items c.copy_within.new.self.items _ c.args.at (search rules)
+          (c.extend_from_slice.ensures.items ∙ cond-true _ _ _ ok) (search rules) (search rules);
       len = search rules;
       capacity = search rules;
     }

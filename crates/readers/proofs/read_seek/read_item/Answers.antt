@@ -8,7 +8,7 @@ returns-in_err-read_exact g c =
     let room : c.args.at + c.item_len-len.result ≤ length c.args.out.now = omega (arith, c.if-len-out.false, c.requires.within) in
     let cut : c.args.at + c.item_len-len.result - c.args.at ≡ c.item_len-len.result = omega arith in
     let i =
-    item_refused g.R.Reader _ _ _ _ _ _ c.args.reader.now c.seek_item.new.reader _ _ c.requires.value c.requires.size.0 c.in_ok-seek_item.ensures.answer
+    item_refused g.R.Reader _ _ _ _ _ _ c.args.reader.now c.seek_item.new.reader _ _ c.requires.value.there c.requires.size c.in_ok-seek_item.ensures.answer
     c.in_ok-seek_item.ensures.place c.item_len-len.ensures room c.if-not-noted.false cut _ _ _ c.in_err-read_exact.ensures.filled
     in
     let p = err_from_is_err_and c.from_residual-in_err-read_exact.result c.from_residual-in_err-read_exact.ensures.1 in
@@ -17,7 +17,7 @@ returns-in_err-read_exact g c =
       answer = i.0;
       output = i.1;
       place =
-          left_refused g.R.Reader _ _ _ _ _ c.args.out.now c.args.reader.now c.seek_item.new.reader _ _ c.requires.value c.requires.size.0 c.in_ok-seek_item.ensures.answer
+          left_refused g.R.Reader _ _ _ _ _ c.args.out.now c.args.reader.now c.seek_item.new.reader _ _ c.requires.value.there c.requires.size c.in_ok-seek_item.ensures.answer
           c.in_ok-seek_item.ensures.place c.item_len-len.ensures room c.if-not-noted.false cut _ c.in_err-read_exact.ensures.place;
     })
 
@@ -26,13 +26,13 @@ returns g c =
     let room : c.args.at + c.item_len-len.result ≤ length c.args.out.now = omega (arith, c.if-len-out.false, c.requires.within) in
     let cut : c.args.at + c.item_len-len.result - c.args.at ≡ c.item_len-len.result = omega arith in
     let i =
-    item_given g.R.Reader _ _ _ _ _ _ c.args.reader.now c.seek_item.new.reader _ _ c.requires.value c.requires.size.0 c.in_ok-seek_item.ensures.answer
+    item_given g.R.Reader _ _ _ _ _ _ c.args.reader.now c.seek_item.new.reader _ _ c.requires.value.there c.requires.size c.in_ok-seek_item.ensures.answer
     c.in_ok-seek_item.ensures.place c.item_len-len.ensures room c.if-not-noted.false cut _ c.in_ok-read_exact.ensures.filled
     in
     record {
       answer = i.0;
       output = i.1;
       place =
-          left_given g.R.Reader _ _ _ _ _ c.args.out.now c.args.reader.now c.seek_item.new.reader _ _ c.requires.value c.requires.size.0 c.in_ok-seek_item.ensures.answer
+          left_given g.R.Reader _ _ _ _ _ c.args.out.now c.args.reader.now c.seek_item.new.reader _ _ c.requires.value.there c.requires.size c.in_ok-seek_item.ensures.answer
           c.in_ok-seek_item.ensures.place c.item_len-len.ensures room c.if-not-noted.false cut _ c.in_ok-read_exact.ensures.place;
     }

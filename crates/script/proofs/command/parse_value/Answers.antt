@@ -1,12 +1,10 @@
-use Rattle.std.proofs.Common.{arith}
-use Rattle.script.proofs.Lines.{value_missing, value_there}
+use Rattle.std.proofs.Common.{sym, subst}
+use Rattle.script.specs.Commands.{ValueRead}
+use Rattle.script.proofs.Lines.{value_missing, value_read_is}
 use Rattle.script.proofs.command.parse_value.Goals as goal
 
-pub returns-then-text-eq0 : goal.returns-then-text-eq0
-returns-then-text-eq0 c = λ l. value_missing c.args.text.now c.trim-text.result.now c.trim-text.ensures l (omega arith)
+pub returns-then-is_empty : goal.returns-then-is_empty
+returns-then-is_empty c = λ l. value_missing c.args.text.now c.trim-text.result.now c.trim-text.ensures l (sym c.if-is_empty.ensures)
 
-pub returns-in-Some : goal.returns-in-Some
-returns-in-Some c = λ l. value_there c.args.text.now c.trim-text.result.now c.trim-text.ensures l _ (λ z. omega arith) c.in-Some.ensures
-
-pub returns-in-None : goal.returns-in-None
-returns-in-None c = λ l. value_there c.args.text.now c.trim-text.result.now c.trim-text.ensures l _ (λ z. omega arith) c.in-None.ensures
+pub returns : goal.returns
+returns c = subst (ValueRead c.args.text.now) (sym c.ok_or.ensures.value) (value_read_is c.args.text.now c.trim-text.result.now c.trim-text.ensures c.value_of.result (sym c.if-is_empty.ensures) c.value_of.ensures)

@@ -1,23 +1,16 @@
-use Rattle.std.proofs.Common.{◌++◌, vec_items, sym, ap, ◌∙◌}
+use Rattle.std.proofs.Common.{◌++◌, vec_items, sym, ap, ◌∙◌, arith}
 use Rattle.std.proofs.lemmas.List.{append-nil}
-use Rattle.script.proofs.Hexadecimal.{decode_step, unhex_all}
+use Rattle.script.proofs.Hexadecimal.{decode_step, unhex_short}
 use Rattle.script.proofs.hex.decode.Goals as goal
 
-pub loop-i-preserved : goal.loop-i-preserved
-loop-i-preserved c =
-    decode_step
-    (vec_items c.push.new.self)
-    (vec_items c.loop-i.out)
-    c.args.text.now
-    _
-    c.loop-i.i
-    c.digit_value.result
-    c.digit_value-in-loop-i.result
-    c.loop-i-test.true
-    c.digit_value.ensures.0
-    c.digit_value-in-loop-i.ensures.0
-    c.in_ok-push.ensures.items
-    c.loop-i.invariant
+pub loop-pair-preserved : goal.loop-pair-preserved
+loop-pair-preserved c =
+    let s = c.in-Some.ensures.steps in (
+      decode_step (vec_items c.push.new.self) (vec_items c.loop-pair.out) c.in-Some.pair.now c.loop-pair.pair-iterator.rest.now c.next.new.self.rest.now _ c.pair_value.result (s.1.1 ∙ c.loop-pair.invariant.1) s.1.0 c.pair_value.ensures c.in_ok-push.ensures.items c.loop-pair.invariant.0,
+      s.0 ∙ c.loop-pair.invariant.1,
+    )
 
 pub returns : goal.returns
-returns c = sym (append-nil _) ∙ (ap (λ u. vec_items c.loop-i.out ++ u) (sym (unhex_all c.args.text.now c.loop-i.i c.loop-i-test.false)) ∙ c.loop-i.invariant)
+returns c =
+    let s = c.in-None.ensures.steps in
+    sym (append-nil _) ∙ (ap (λ u. vec_items c.loop-pair.out ++ u) (sym (unhex_short c.loop-pair.pair-iterator.rest.now (omega (arith, s.1.0)))) ∙ c.loop-pair.invariant.0)

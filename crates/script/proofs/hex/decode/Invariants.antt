@@ -1,6 +1,6 @@
-use Rattle.std.proofs.Common.{◌≡◌, ◌*◌, ◌++◌, drop, vec_items}
+use Rattle.std.proofs.Common.{◌≡◌, ◌++◌, vec_items}
 use Rattle.script.specs.Hex.{unhex}
 use Rattle.script.proofs.hex.decode.Given as goal
 
-abbrev pub invariant-loop-i : goal.invariant-loop-i
-invariant-loop-i l = vec_items l.out ++ unhex (drop (2 * l.i) l.text) ≡ unhex l.text
+abbrev pub invariant-loop-pair : goal.invariant-loop-pair
+invariant-loop-pair l = (vec_items l.out ++ unhex l.pair-iterator.rest.now ≡ unhex l.text) × (l.pair-iterator.size ≡ 2)

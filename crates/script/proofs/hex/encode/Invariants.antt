@@ -1,6 +1,6 @@
-use Rattle.std.proofs.Common.{◌≡◌, ◌++◌, drop, vec_items}
+use Rattle.std.proofs.Common.{◌≡◌, ◌++◌, take, vec_items}
 use Rattle.script.specs.Hex.{hex}
 use Rattle.script.proofs.hex.encode.Given as goal
 
 abbrev pub invariant-loop-b : goal.invariant-loop-b
-invariant-loop-b l = vec_items l.out ++ hex (drop l.b-index l.bytes) ≡ vec_items l.initial.out ++ hex l.bytes
+invariant-loop-b l = vec_items l.out ≡ vec_items l.initial.out ++ hex (take l.b-index l.bytes)

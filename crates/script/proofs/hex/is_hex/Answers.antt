@@ -1,25 +1,21 @@
-use Rattle.std.proofs.Common.{◌+◌, ◌%◌, ◌&&◌, eqb, length, drop, sym, ap, ◌∙◌}
-use Rattle.std.proofs.lemmas.List.{at_drop_more, at_drop_all}
-use Rattle.script.specs.Hex.{is_hex, all_digits}
+use Rattle.std.proofs.Common.{◌≡◌, ◌%◌, ◌&&◌, eqb, length, ap, ◌∙◌, sym, rules}
+use borrow.Author.Tests.{tests}
+use Rattle.std.specs.List.{list_all}
+use Rattle.std.proofs.lemmas.Iterator.{YieldsList-from_slice}
+use Rattle.std.proofs.lemmas.Iterator.Search.{all_from_yields_List}
+use Rattle.script.specs.Hex.{is_digit, is_hex}
 use Rattle.script.proofs.hex.is_hex.Goals as goal
 
-pub returns-then-not-is_hex_digit : goal.returns-then-not-is_hex_digit
+pub returns-then-all : goal.returns-then-all
 unfolding is_hex
-returns-then-not-is_hex_digit c =
+returns-then-all c =
     let t = c.args.text.now in
-    let i = c.loop-b.b-index in
-    ap (λ b. (b && all_digits (drop (i + 1) t)) && eqb (length t % 2) 0) c.if-not-is_hex_digit.ensures
-    ∙ ap (λ b. b && eqb (length t % 2) 0) (sym (at_drop_more all_digits t i 0 c.loop-b-test.true) ∙ c.loop-b.invariant)
+    let e : c.all.result ≡ list_all is_digit t = all_from_yields_List is_digit _ _ _ c.all.ensures.ran (YieldsList-from_slice t cc) (λ x b q k. search (rules, tests)) in
+    ap (λ b. b && eqb (length t % 2) 0) (sym c.if-all.true ∙ e)
 
-pub loop-b-preserved : goal.loop-b-preserved
-loop-b-preserved c =
-    let t = c.args.text.now in
-    let i = c.loop-b.b-index in
-    ap (λ b. b && all_digits (drop (i + 1) t)) c.if-not-is_hex_digit.ensures
-    ∙ (sym (at_drop_more all_digits t i 0 c.loop-b-test.true) ∙ c.loop-b.invariant)
-
-pub returns : goal.returns
+pub returns-else-all : goal.returns-else-all
 unfolding is_hex
-returns c =
+returns-else-all c =
     let t = c.args.text.now in
-    ap (λ b. b && eqb (length t % 2) 0) (sym (at_drop_all all_digits t c.loop-b.b-index c.loop-b-test.false) ∙ c.loop-b.invariant)
+    let e : c.all.result ≡ list_all is_digit t = all_from_yields_List is_digit _ _ _ c.all.ensures.ran (YieldsList-from_slice t cc) (λ x b q k. search (rules, tests)) in
+    c.if-all.false ∙ ap (λ b. b && eqb (length t % 2) 0) (sym c.if-all.false ∙ e)

@@ -1,12 +1,17 @@
-use Rattle.std.proofs.Common.{sym}
-use Rattle.script.proofs.Values.{quoted_said, hex_said, none_said}
+use Rattle.std.proofs.Common.{arith}
+use Rattle.std.proofs.lemmas.Bool.Decides.{nat_tests}
+use Rattle.std.proofs.lemmas.Grind.{common_steps}
+use Rattle.script.specs.Values.{value_said}
 use Rattle.script.proofs.value.value_of.Goals as goal
 
-pub returns-then-is_quoted : goal.returns-then-is_quoted
-returns-then-is_quoted c = quoted_said c.args.text.now (sym c.if-is_quoted.ensures)
+pub returns-in-34 : goal.returns-in-34
+unfolding value_said
+returns-in-34 c = grind (arith, nat_tests, common_steps)
 
-pub returns-then-is_hex_value : goal.returns-then-is_hex_value
-returns-then-is_hex_value c = hex_said c.args.text.now (sym c.if-is_quoted.ensures) (sym c.if-is_hex_value.ensures)
+pub returns-in-120 : goal.returns-in-120
+unfolding value_said
+returns-in-120 c = grind (arith, nat_tests, common_steps)
 
-pub returns : goal.returns
-returns c = none_said c.args.text.now (sym c.if-is_quoted.ensures) (sym c.if-is_hex_value.ensures)
+pub returns-in_default : goal.returns-in_default
+unfolding value_said
+returns-in_default c = grind (arith, nat_tests, common_steps)

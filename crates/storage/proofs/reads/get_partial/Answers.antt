@@ -7,8 +7,10 @@ returns-in_err-read g c =
     let p = err_from_is_err_and c.from_residual.result c.from_residual.ensures.1 in
     rw (p.1, p.2) (one-refused _ _ _ _ _ _ _ c.in_err-read.ensures)
 
-pub returns-in-Bytes : goal.returns-in-Bytes
-returns-in-Bytes g c = one_read _ _ _ _ _ _ _ _ c.in_ok-read.ensures c.in-Bytes.is
+pub returns-in_err-notes : goal.returns-in_err-notes
+returns-in_err-notes g c =
+    let p = err_from_is_err_and c.from_residual-in_err-notes.result c.from_residual-in_err-notes.ensures.1 in
+    rw p.1 (one-unfit _ _ _ _ _ _ _ _ _ c.in_ok-read.ensures c.in_err-notes.was p.2)
 
-pub returns-in-Fault : goal.returns-in-Fault
-returns-in-Fault g c = one-unfit _ _ _ _ _ _ _ _ _ c.in_ok-read.ensures c.in-Fault.is c.from.ensures
+pub returns : goal.returns
+returns g c = one_read _ _ _ _ _ _ _ _ c.in_ok-read.ensures c.in_ok-notes.was

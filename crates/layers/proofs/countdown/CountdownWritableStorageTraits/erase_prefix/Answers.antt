@@ -1,18 +1,10 @@
-use Rattle.std.proofs.Common.{refl}
-use Rattle.std.proofs.lemmas.Result.{err_from_is_err_and}
-use Rattle.layers.specs.Counts.{cut, through, lowered}
+use Rattle.std.proofs.Common.{rules}
+use Rattle.keys.specs.StorePrefixes.{prefix_text}
+use Rattle.storage.specs.Writes.{erase_prefix}
+use Rattle.layers.proofs.Writes.{written_through}
 use Rattle.layers.proofs.countdown.CountdownWritableStorageTraits.erase_prefix.Goals as goal
 
-pub returns-in_err-has_power : goal.returns-in_err-has_power
-returns-in_err-has_power g c =
-    let p = err_from_is_err_and c.from_residual.result c.from_residual.ensures.1 in
-    rw (p.1, p.2) (record { wrote = cut g.S.ReadableStorageTraits _ _ c.args.self.now.storage _ c.in_err-has_power.ensures; counts = (refl, refl) })
-
-pub returns : goal.returns
-returns g c =
-    record {
-      wrote =
-          through g.S.ReadableStorageTraits _ _ _ c.args.self.now.storage c.erase_prefix-answer.new.self c.count.new.self.storage _ _
-          c.in_ok-has_power.ensures c.erase_prefix-answer.ensures c.count.ensures.below.0 c.count.ensures.counts;
-      counts = (lowered _ _ _ _ c.count.ensures.counts, c.count.ensures.below.1);
-    }
+pub returns-clause-wrote : goal.returns-clause-wrote
+returns-clause-wrote g c =
+    written_through g.S.ReadableStorageTraits (erase_prefix (prefix_text c.args.prefix.now)) _ _ _ c.args.self.now c.written.new.self
+    c.written.ensures (λ x x' a h. rw (← h.shows, ← h.leaves) (search (rules, h.met)))

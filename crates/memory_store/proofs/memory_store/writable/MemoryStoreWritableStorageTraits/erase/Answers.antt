@@ -5,5 +5,4 @@ use Rattle.memory_store.specs.Memories.{table-room, accepted}
 use Rattle.memory_store.proofs.memory_store.writable.MemoryStoreWritableStorageTraits.erase.Goals as goal
 
 pub returns : goal.returns
-returns c =
-    accepted _ _ (erase (text c.args.key.now)) refl tt (table-room _ _ c.remove.ensures.table) c.remove.ensures.contents
+returns c = accepted _ _ (erase (text c.args.key.now)) refl tt (table-room c.remove.new.self) c.remove.ensures
