@@ -3,5 +3,6 @@
 
 pub mod command;
 pub mod hex;
+mod number;
 pub mod value;
 mod words;

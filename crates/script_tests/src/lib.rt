@@ -4,4 +4,4 @@
 #[cfg(test)]
 mod lines;
 #[cfg(test)]
-mod runs;
+mod run_lines;

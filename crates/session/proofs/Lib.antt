@@ -1,3 +1,8 @@
-pub mod Holds
+pub mod Asking
+pub mod Clearing
+pub mod Entries
 pub mod Keys
-pub mod Values
+pub mod Splits
+pub mod Standing
+pub mod Tallies
+pub mod Telling

@@ -1,2 +1,4 @@
-pub mod Calls
-pub mod Runs
+pub mod Counts
+pub mod Holds
+pub mod Lines
+pub mod Scripts

@@ -1,5 +1,9 @@
-//! Performs the calls of a script on a box: an atomic write adapter over a store.
+//! Scripts of a box: their calls, what is printed of a run, and the exports of a run, counted.
 #![tactic(auto)]
 
 pub mod calls;
-pub mod run;
+pub mod counts;
+pub mod holds;
+mod lines;
+pub mod performed;
+pub mod power;
