@@ -2,4 +2,4 @@ pub mod Appends
 pub mod Blanks
 pub mod Hexadecimal
 pub mod Lines
-mod Numbers
+pub mod Values

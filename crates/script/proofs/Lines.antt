@@ -1,18 +1,15 @@
 -- What a line says, part by part.
-use Rattle.std.proofs.Common.{◌≡◌, ℕ, true, false, eqb, length, Option, Some, None, Result, Ok, Err, codes, sym, refl, ap, ◌∙◌, ⊎_elim, arith}
+use Rattle.std.proofs.Common.{◌≡◌, true, false, eqb, length, Option, Some, None, Result, Ok, Err, sym, ap, ◌∙◌}
 use Rattle.std.specs.Option.{ok_or}
 use Rattle.std.specs.Result.{MatchResult, IsOkAnd}
-use Rattle.std.specs.Str.{bytes_eq}
-use Rattle.std.proofs.lemmas.Slice.Eq.{bytes_eq-Decides}
-use Rattle.std.proofs.lemmas.Bool.{cases_Bool, cond-true, cond-false}
+use Rattle.std.proofs.lemmas.Bool.{cond-true, cond-false}
 use Rattle.script.specs.Words.{Bytes, trimmed, first_word, behind_word}
-use Rattle.script.specs.Numbers.{number_said}
 use Rattle.script.specs.Values.{bytes_of, value_said, value_read}
 use Rattle.script.specs.declared.value.Value.{Value}
 use Rattle.script.specs.declared.command.Command.{Command}
 use Rattle.script.specs.declared.command.ParseError.{ParseError}
-use Rattle.script.specs.declared.command.ParseError.TheVariants.{BadValue, BadNumber}
-use Rattle.script.specs.Commands.{Call, Line, asks, wrong, nothing, no_label, no_value, no_number, extra_text, skipped, verb_of, labelled_of, label_of, label_says, value_line, value_says, number_line, number_says, finish_says, verb_says, line_says, line_of, command_line, mistake_of, ValueRead}
+use Rattle.script.specs.declared.command.ParseError.TheVariants.{BadValue}
+use Rattle.script.specs.Commands.{Call, Line, asks, wrong, nothing, no_label, no_value, extra_text, skipped, verb_of, label_of, label_says, value_line, value_says, finish_says, verb_says, line_says, line_of, command_line, ValueRead}
 
 module _ (t u : Bytes) (e : u ≡ trimmed t) where
   is_left : eqb (length (trimmed t)) 0 ≡ eqb (length u) 0
@@ -26,17 +23,17 @@ module _ (t u : Bytes) (e : u ≡ trimmed t) where
   unfolding finish_says
   finish_extra c s = ap (λ v. wrong (extra_text v)) e ∙ sym (cond-false (eqb (length (trimmed t)) 0) _ _ (is_left ∙ s))
 
-  pub value_missing : (f : Bytes → Call) → eqb (length u) 0 ≡ true → value_says f t ≡ wrong no_value
+  pub value_missing : (l : Bytes) → eqb (length u) 0 ≡ true → value_says l t ≡ wrong no_value
   unfolding value_says
-  value_missing f z = cond-true (eqb (length (trimmed t)) 0) _ _ (is_left ∙ z)
+  value_missing l z = cond-true (eqb (length (trimmed t)) 0) _ _ (is_left ∙ z)
 
-  pub value_there : (f : Bytes → Call) (o : Option Bytes) → eqb (length u) 0 ≡ false → o ≡ value_said u → value_says f t ≡ value_line f o
+  pub value_there : (l : Bytes) (o : Option Bytes) → eqb (length u) 0 ≡ false → o ≡ value_said u → value_says l t ≡ value_line l o
   unfolding value_says
-  value_there f o s p = cond-false (eqb (length (trimmed t)) 0) _ _ (is_left ∙ s) ∙ ap (value_line f) (ap value_said (sym e) ∙ sym p)
+  value_there l o s p = cond-false (eqb (length (trimmed t)) 0) _ _ (is_left ∙ s) ∙ ap (value_line l) (ap value_said (sym e) ∙ sym p)
 
   pub value_read_is : (o : Option Value) → eqb (length u) 0 ≡ false → value_read o ≡ value_said u → ValueRead t (ok_or o BadValue)
-  value_read_is None s p = λ f. value_there f None s p
-  value_read_is (Some v) s p = λ f. value_there f (Some (bytes_of v)) s p
+  value_read_is None s p = λ l. value_there l None s p
+  value_read_is (Some v) s p = λ l. value_there l (Some (bytes_of v)) s p
 
 pub label_there : (t l r : Bytes) (f : Bytes → Bytes → Line) → eqb (length (first_word t)) 0 ≡ false → l ≡ label_of (first_word t) → r ≡ behind_word t → label_says t f ≡ f l r
 unfolding label_says
@@ -45,26 +42,6 @@ label_there t l r f s p q = cond-false (eqb (length (first_word t)) 0) _ _ s ∙
 pub label_missing : (t : Bytes) (f : Bytes → Bytes → Line) → eqb (length (first_word t)) 0 ≡ true → label_says t f ≡ wrong no_label
 unfolding label_says
 label_missing t f z = cond-true (eqb (length (first_word t)) 0) _ _ z
-
-module _ (t w r : Bytes) (p : w ≡ first_word t) (q : r ≡ behind_word t) where
-  pub number_missing : (f : ℕ → Bytes → Line) → eqb (length w) 0 ≡ true → number_says t f ≡ wrong no_number
-  unfolding number_says
-  number_missing f z = cond-true (eqb (length (first_word t)) 0) _ _ (ap (λ (v : Bytes). eqb (length v) 0) (sym p) ∙ z)
-
-  pub number_there : (f : ℕ → Bytes → Line) (o : Option ℕ) → eqb (length w) 0 ≡ false → o ≡ number_said w → number_says t f ≡ number_line o (λ n. f n r)
-  unfolding number_says
-  number_there f o s e =
-      cond-false (eqb (length (first_word t)) 0) _ _ (ap (λ (v : Bytes). eqb (length v) 0) (sym p) ∙ s)
-      ∙ ap (λ (x : Option ℕ). number_line x (λ n. f n (behind_word t))) (ap number_said (sym p) ∙ sym e)
-      ∙ ap (λ (b : Bytes). number_line o (λ n. f n b)) (sym q)
-
-  pub number_read : (o : Option ℕ) (n : ℕ) → eqb (length w) 0 ≡ false → o ≡ number_said w → ◌≡◌ {A = Result ℕ ParseError} (Ok n) (ok_or o BadNumber) → (f : ℕ → Bytes → Line) → number_says t f ≡ f n r
-  number_read None n s e k f = absurd (let z : ◌≡◌ {A = ℕ} 0 1 = cc in omega arith)
-  number_read (Some m) n s e k f = number_there f (Some m) s e ∙ (let z : m ≡ n = cc in ap (λ (j : ℕ). f j r) z)
-
-  pub number_bad : (o : Option ℕ) (x : ParseError) → eqb (length w) 0 ≡ false → o ≡ number_said w → ◌≡◌ {A = Result ℕ ParseError} (Err x) (ok_or o BadNumber) → (f : ℕ → Bytes → Line) → number_says t f ≡ wrong (mistake_of x)
-  number_bad None x s e k f = number_there f None s e ∙ (let z : ◌≡◌ {A = ParseError} BadNumber x = cc in ap (λ (y : ParseError). wrong (mistake_of y)) z)
-  number_bad (Some m) x s e k f = absurd (let z : ◌≡◌ {A = ℕ} 0 1 = cc in omega arith)
 
 pub line_skipped : (t w : Bytes) → w ≡ first_word t → skipped w ≡ true → nothing ≡ line_says t
 unfolding line_says
@@ -79,10 +56,3 @@ pub mapped_line : (r : Result Command ParseError) (s : Result (Option Command) P
 mapped_line (Ok c) (Ok o) P h m = ap (λ (x : Option Command). line_of (Ok x)) (h c o m)
 mapped_line (Ok c) (Err e) P h m = absurd m
 mapped_line (Err e) s P h m = ap line_of m
-
-other : (w u : Bytes) → (w ≡ u → ⊥) → bytes_eq w u ≡ false
-other w u n = ⊎_elim (λ e. absurd (n ((bytes_eq-Decides w u).0 e))) (λ e. e) (cases_Bool (bytes_eq w u))
-
--- a word that is none of the calls on a label or a prefix
-pub no_labelled : (w : Bytes) → (w ≡ codes "read" → ⊥) → (w ≡ codes "size_key" → ⊥) → (w ≡ codes "erase" → ⊥) → (w ≡ codes "erase_prefix" → ⊥) → (w ≡ codes "list_dir" → ⊥) → (w ≡ codes "size_prefix" → ⊥) → None ≡ labelled_of w
-no_labelled w a b c d e f = rw (other w _ a, other w _ b, other w _ c, other w _ d, other w _ e, other w _ f) refl

@@ -3,6 +3,5 @@
 
 pub mod command;
 pub mod hex;
-mod number;
 pub mod value;
 mod words;

@@ -4,4 +4,4 @@
 #[cfg(test)]
 mod lines;
 #[cfg(test)]
-mod run_lines;
+mod runs;

@@ -29,6 +29,5 @@ module _ (xs : List Bytes) (n : ℕ) where
   pub all_taken : (ks : List StoreKey) → None ≡ slice_get xs n → map text ks ≡ take n xs → map text ks ≡ xs
   all_taken ks e h = h ∙ take_all n xs (past e)
 
-  -- the key at a place among keys that were taken
-  pub key_at : (ks : List StoreKey) (k : StoreKey) → map text ks ≡ xs → n < length ks → k ≡ get_or ks n k → Some (text k) ≡ slice_get xs n
-  key_at ks k e l p = sym (ap (λ y. slice_get y n) (sym e) ∙ (slice_get-map text ks n ∙ ap (option_map text) (slice_get_read ks (length ks) n k refl l p)))
+pub none_taken : (xs : List Bytes) (n : ℕ) (ks : List StoreKey) → ks ≡ [] → n ≡ 0 → map text ks ≡ take n xs
+none_taken xs n ks e z = ap (map text) e ∙ ap (λ j. take j xs) (sym z)

@@ -1,8 +1,3 @@
-pub mod Asking
-pub mod Clearing
-pub mod Entries
+pub mod Holds
 pub mod Keys
-pub mod Splits
-pub mod Standing
-pub mod Tallies
-pub mod Telling
+pub mod Values

@@ -1,4 +1,2 @@
-pub mod Counts
-pub mod Holds
-pub mod Lines
-pub mod Scripts
+pub mod Calls
+pub mod Runs

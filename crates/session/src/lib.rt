@@ -1,9 +1,5 @@
-//! Scripts of a box: their calls, what is printed of a run, and the exports of a run, counted.
+//! Performs the calls of a script on a box: an atomic write adapter over a store.
 #![tactic(auto)]
 
 pub mod calls;
-pub mod counts;
-pub mod holds;
-mod lines;
-pub mod performed;
-pub mod power;
+pub mod run;

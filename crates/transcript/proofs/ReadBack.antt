@@ -1,5 +1,5 @@
 -- What is written reads back.
-use Rattle.std.proofs.Common.{◌≡◌, ℕ, ◌+◌, ◌-◌, ◌*◌, ◌/◌, ◌%◌, ◌<◌, true, false, eqb, leb, [], ◌∷◌, ◌++◌, length, get_or, take, Some, refl, ap, ◌∙◌, arith}
+use Rattle.std.proofs.Common.{◌≡◌, ℕ, ◌+◌, ◌-◌, ◌*◌, ◌/◌, ◌%◌, ◌<◌, true, false, eqb, leb, [], ◌∷◌, ◌++◌, length, get_or, take, Some, sym, refl, ap, append_assoc, ◌∙◌, arith}
 use Rattle.std.specs.List.{AllByRecursion}
 use Rattle.std.proofs.lemmas.List.{take_at, get_or_at, length_push}
 use Rattle.std.proofs.lemmas.Bool.{le-leb, eq-eqb, and_from, and_right, cond-true, cond-false, cond_both}
@@ -63,3 +63,16 @@ hex_back v h =
 pub value_back : (v : Bytes) → Octets v → value_said (value_text v) ≡ Some v
 unfolding value_text
 value_back v h = cond_both (printable v) (quote ∷ (v ++ (quote ∷ []))) (hex_mark ∷ hex v) (λ t. value_said t ≡ Some v) (λ _. quoted_back v) (λ _. hex_back v h)
+
+module _ (o a d v : Bytes) where
+  pub text_put : (b : Bytes) → printable v ≡ true → a ≡ o ++ (quote ∷ []) → b ≡ a ++ v → d ≡ b ++ (quote ∷ []) → d ≡ o ++ value_text v
+  unfolding value_text
+  text_put b p e f g =
+      g
+      ∙ (ap (λ l. l ++ (quote ∷ [])) (f ∙ ap (λ l. l ++ v) e)
+      ∙ (append_assoc (o ++ (quote ∷ [])) v (quote ∷ [])
+      ∙ (append_assoc o (quote ∷ []) (v ++ (quote ∷ [])) ∙ ap (λ l. o ++ l) (sym (cond-true (printable v) _ _ p)))))
+
+  pub hex_put : printable v ≡ false → a ≡ o ++ (hex_mark ∷ []) → d ≡ a ++ hex v → d ≡ o ++ value_text v
+  unfolding value_text
+  hex_put p e f = f ∙ (ap (λ l. l ++ hex v) e ∙ (append_assoc o (hex_mark ∷ []) (hex v) ∙ ap (λ l. o ++ l) (sym (cond-false (printable v) _ _ p))))

@@ -1,27 +1,19 @@
 -- A call that is written is read back as the same call.
-use Rattle.std.proofs.Common.{◌≡◌, ℕ, ◌+◌, ◌-◌, ◌*◌, ◌/◌, ◌%◌, ◌^◌, ◌<◌, Bool, true, false, ◌&&◌, cond, eqb, ltb, [], ◌∷◌, ◌++◌, length, get_or, take, drop, Option, Some, None, codes, decimal, sym, refl, ap, ◌∙◌, subst, ⊎_elim, arith}
+use Rattle.std.proofs.Common.{◌≡◌, ℕ, ◌+◌, ◌-◌, ◌/◌, ◌<◌, true, false, cond, eqb, [], ◌∷◌, ◌++◌, length, get_or, take, drop, Some, codes, sym, refl, ap, append_assoc, ◌∙◌, subst, ⊎_elim, arith}
 use Rattle.std.specs.List.{prefix_len, suffix_len, AllByRecursion}
 use Rattle.std.specs.Str.{bytes_eq}
 use Rattle.std.proofs.ByRecursion.{All-get_or}
 use Rattle.std.proofs.lemmas.Slice.Eq.{bytes_eq-Decides}
-use Rattle.std.proofs.lemmas.Fmt.{decimal_by_steps}
 use Rattle.std.proofs.lemmas.List.{take_at, take_all, drop_at, drop_all, get_or_at, length_push}
 use Rattle.std.proofs.lemmas.List.Sums.{suffix_len-take_no}
 use Rattle.std.proofs.lemmas.Bool.{cases_Bool, ne_eqb, cond-true, cond-false, cond_both, not-true}
 use Rattle.std.proofs.lemmas.Bool.Decides.{nat_tests}
 use Rattle.script.specs.Words.{Bytes, blank, plain, trimmed_front, trimmed_back, trimmed, first_word, behind_word}
-use Rattle.script.specs.Hex.{decimal_digit, digit_of, hex}
-use Rattle.script.specs.Numbers.{number_behind, number_said}
+use Rattle.script.specs.Hex.{digit_of, hex}
 use Rattle.script.specs.Values.{quote, hex_mark, value_said}
-use Rattle.script.specs.declared.command.Labelled.{Labelled}
-use Rattle.script.specs.declared.command.Labelled.TheVariants as labelled
-use Rattle.script.specs.declared.command.Plain.{Plain}
-use Rattle.script.specs.declared.command.Plain.TheVariants as without
-use Rattle.script.specs.declared.command.Verb.{Verb}
-use Rattle.script.specs.declared.command.Verb.TheVariants as verb
-use Rattle.script.specs.Commands.{Call, exporting, patching, on, plainly, powering, Line, asks, skipped, verb_of, verb_says, label_of, label_says, value_says, number_says, finish_says, line_says}
+use Rattle.script.specs.Commands.{exporting, reading, listing, Line, asks, label_of, value_says, finish_says, line_says}
 use Rattle.transcript.specs.Written.{printable, value_text, label_text, written, LabelFits}
-use Rattle.script.proofs.Lines.{value_there, label_there, number_there, line_asks, finish_done}
+use Rattle.script.proofs.Lines.{value_there, label_there, line_asks, finish_done}
 
 -- words
 
@@ -108,126 +100,55 @@ value_some : (v : Bytes) → length (value_text v) ≡ 0 → ⊥
 unfolding value_text
 value_some v = cond_both (printable v) (quote ∷ (v ++ (quote ∷ []))) (hex_mark ∷ hex v) (λ t. length t ≡ 0 → ⊥) (λ _ z. omega arith) (λ _ z. omega arith)
 
--- numbers
-
-more_digits : (ds : Bytes) (m k b : ℕ) → number_behind m ds ≡ Some k → number_behind m (ds ++ (b ∷ [])) ≡ number_behind k (b ∷ [])
-unfolding number_behind
-more_digits [] m k b e = let z : m ≡ k = cc in ap (λ (x : ℕ). number_behind x (b ∷ [])) z
-more_digits (x ∷ ds) m k b e = go (decimal_digit x && ltb (m * 10 + (x - 48)) (2 ^ 64)) (λ f. more_digits ds (m * 10 + (x - 48)) k b f) e
-  where
-    go : (t : Bool) → (number_behind (m * 10 + (x - 48)) ds ≡ Some k → number_behind (m * 10 + (x - 48)) (ds ++ (b ∷ [])) ≡ number_behind k (b ∷ [])) → cond t (number_behind (m * 10 + (x - 48)) ds) None ≡ Some k → cond t (number_behind (m * 10 + (x - 48)) (ds ++ (b ∷ []))) None ≡ number_behind k (b ∷ [])
-    go true g e = g e
-    go false g e = absurd (let z : ◌≡◌ {A = ℕ} 0 1 = cc in omega arith)
-
-all_push : (ds : Bytes) (b : ℕ) → AllByRecursion (λ x. plain x ≡ true) ds → plain b ≡ true → AllByRecursion (λ x. plain x ≡ true) (ds ++ (b ∷ []))
-all_push [] b h p = (p, tt)
-all_push (x ∷ ds) b h p = (h.0, all_push ds b h.1 p)
-
--- digits are a word, and say their number
-record Digits (n : ℕ) (ds : Bytes) : Type 0 where
-  word : AllByRecursion (λ b. plain b ≡ true) ds
-  some : 0 < length ds
-  value : n < 2 ^ 64 → number_behind 0 ds ≡ Some n
-
-one_digit : (k d : ℕ) → d < 10 → k * 10 + d < 2 ^ 64 → number_behind k ((48 + d) ∷ []) ≡ Some (k * 10 + d)
-unfolding number_behind
-one_digit k d h f = grind (arith, nat_tests)
-
-digit_word : (d : ℕ) → d < 10 → plain (48 + d) ≡ true
-digit_word d h = grind (arith, nat_tests)
-
-decimal_digits : (n : ℕ) → n < 2 ^ 64 → Digits n (decimal n)
-decimal_digits n h =
-    decimal_by_steps Digits
-    (λ n h. record { word = (digit_word n h, tt); some = omega arith; value = λ f. one_digit 0 n h (omega arith) ∙ ap Some (omega arith) })
-    (λ n ds h k. record {
-      word = all_push ds (48 + n % 10) k.word (digit_word (n % 10) (omega arith));
-      some = omega (arith, length_push ds (48 + n % 10));
-      value = λ f. more_digits ds 0 (n / 10) (48 + n % 10) (k.value (omega arith)) ∙ (one_digit (n / 10) (n % 10) (omega arith) (omega arith) ∙ ap Some (omega arith));
-    })
-    n h
-
-number_back : (n : ℕ) → n < 2 ^ 64 → number_said (decimal n) ≡ Some n
-number_back n h = go (decimal n) (decimal_digits n h).some ((decimal_digits n h).value h)
-  where
-    go : (ds : Bytes) → 0 < length ds → number_behind 0 ds ≡ Some n → number_said ds ≡ Some n
-    go [] s e = absurd (omega arith)
-    go (x ∷ ds) s e = e
-
 -- calls
-
--- the first word of a text, and what stands behind it
-module _ (w u : Bytes) (p : AllByRecursion (λ b. plain b ≡ true) w) (s : 0 < length w) where
-  some_word : eqb (length (first_word (32 ∷ (w ++ (32 ∷ u))))) 0 ≡ false
-  some_word = ap (λ (t : Bytes). eqb (length t) 0) (word_then w u p s) ∙ ne_eqb (length w) 0 (λ z. omega arith)
-
-value_line_back : (f : Bytes → Call) (v : Bytes) → value_said (value_text v) ≡ Some v → value_says f (32 ∷ value_text v) ≡ asks (f v)
-value_line_back f v b = value_there (32 ∷ value_text v) (value_text v) (sym (trimmed_value v)) f (Some v) (ne_eqb (length (value_text v)) 0 (value_some v)) (sym b)
-
-module _ (l u : Bytes) (f : Bytes → Bytes → Line) (h : LabelFits l) where
-  label_first : label_says (32 ∷ (label_text l ++ (32 ∷ u))) f ≡ f l (32 ∷ u)
-  label_first =
-      label_there (32 ∷ (label_text l ++ (32 ∷ u))) l (32 ∷ u) f
-      (some_word (label_text l) u (label_plain l h) (label_some l))
-      (sym (ap label_of (word_then (label_text l) u (label_plain l h) (label_some l)) ∙ label_back l h))
-      (sym (behind_then (label_text l) u (label_plain l h) (label_some l)))
-
-label_last : (l : Bytes) (f : Bytes → Bytes → Line) → LabelFits l → label_says (32 ∷ label_text l) f ≡ f l []
-label_last l f h =
-    let w = word_last (label_text l) (label_plain l h) (label_some l) in
-    label_there (32 ∷ label_text l) l [] f
-    (ap (λ (t : Bytes). eqb (length t) 0) w ∙ ne_eqb (length (label_text l)) 0 (λ z. let s = label_some l in omega arith))
-    (sym (ap label_of w ∙ label_back l h))
-    (sym (behind_last (label_text l) (label_plain l h) (label_some l)))
 
 pub export_back : (l v : Bytes) → LabelFits l → value_said (value_text v) ≡ Some v → line_says (written (exporting l v)) ≡ asks (exporting l v)
 unfolding written first_word behind_word
 export_back l v h b =
     let rest : Bytes = 32 ∷ (label_text l ++ (32 ∷ value_text v)) in
+    let p = label_plain l h in
+    let s = label_some l in
+    let w = word_then (label_text l) (value_text v) p s in
     sym (line_asks (codes "export " ++ (label_text l ++ (32 ∷ value_text v))) (codes "export") rest refl refl refl)
-    ∙ (label_first l (value_text v) (λ m u. value_says (exporting m) u) h ∙ value_line_back (exporting l) v b)
+    ∙ (label_there rest l (32 ∷ value_text v) value_says
+    (ap (λ t. eqb (length t) 0) w ∙ ne_eqb (length (label_text l)) 0 (λ z. omega arith))
+    (sym (ap label_of w ∙ label_back l h))
+    (sym (behind_then (label_text l) (value_text v) p s))
+    ∙ value_there (32 ∷ value_text v) (value_text v) (sym (trimmed_value v)) l (Some v) (ne_eqb (length (value_text v)) 0 (value_some v)) (sym b))
 
-pub patch_back : (l v : Bytes) (n : ℕ) → n < 2 ^ 64 → LabelFits l → value_said (value_text v) ≡ Some v → line_says (written (patching l n v)) ≡ asks (patching l n v)
-unfolding written first_word behind_word
-patch_back l v n k h b =
-    let tail : Bytes = decimal n ++ (32 ∷ value_text v) in
-    let d = decimal_digits n k in
-    sym (line_asks (codes "patch " ++ (label_text l ++ (32 ∷ tail))) (codes "patch") (32 ∷ (label_text l ++ (32 ∷ tail))) refl refl refl)
-    ∙ (label_first l tail (λ m u. number_says u (λ o w. value_says (patching m o) w)) h
-    ∙ (number_there (32 ∷ tail) (decimal n) (32 ∷ value_text v) (sym (word_then (decimal n) (value_text v) d.word d.some)) (sym (behind_then (decimal n) (value_text v) d.word d.some)) (λ o w. value_says (patching l o) w) (Some n) (ne_eqb (length (decimal n)) 0 (λ z. let s = d.some in omega arith)) (sym (number_back n k))
-    ∙ value_line_back (patching l n) v b))
-
-module _ (w : Labelled) (l v : Bytes) (h : LabelFits l) where
-  on_word : v ≡ first_word (v ++ (32 ∷ label_text l)) → 32 ∷ label_text l ≡ behind_word (v ++ (32 ∷ label_text l)) → skipped v ≡ false → verb_of v ≡ Some (verb.On w) → line_says (v ++ (32 ∷ label_text l)) ≡ asks (on w l)
-  unfolding trimmed
-  on_word p q s e =
-      sym (line_asks (v ++ (32 ∷ label_text l)) v (32 ∷ label_text l) p q s)
-      ∙ (ap (λ (o : Option Verb). verb_says o v (32 ∷ label_text l)) e
-      ∙ (label_last l (λ m u. finish_says (on w m) u) h ∙ sym (finish_done [] [] refl (on w l) refl)))
-
-pub on_back : (w : Labelled) (l : Bytes) → LabelFits l → line_says (written (on w l)) ≡ asks (on w l)
-unfolding written first_word behind_word
-on_back labelled.Read l h = on_word labelled.Read l (codes "read") h refl refl refl refl
-on_back labelled.SizeKey l h = on_word labelled.SizeKey l (codes "size_key") h refl refl refl refl
-on_back labelled.Erase l h = on_word labelled.Erase l (codes "erase") h refl refl refl refl
-on_back labelled.ErasePrefix l h = on_word labelled.ErasePrefix l (codes "erase_prefix") h refl refl refl refl
-on_back labelled.ListDir l h = on_word labelled.ListDir l (codes "list_dir") h refl refl refl refl
-on_back labelled.SizePrefix l h = on_word labelled.SizePrefix l (codes "size_prefix") h refl refl refl refl
-
-plain_says : (w : Plain) (v : Bytes) → v ≡ first_word v → [] ≡ behind_word v → skipped v ≡ false → verb_of v ≡ Some (verb.Plain w) → line_says v ≡ asks (plainly w)
-unfolding trimmed
-plain_says w v p q s e = sym (line_asks v v [] p q s) ∙ (ap (λ (o : Option Verb). verb_says o v []) e ∙ sym (finish_done [] [] refl (plainly w) refl))
-
-pub plain_back : (w : Plain) → line_says (written (plainly w)) ≡ asks (plainly w)
-unfolding written first_word behind_word
-plain_back without.List = plain_says without.List (codes "list") refl refl refl refl
-plain_back without.Size = plain_says without.Size (codes "size") refl refl refl refl
-plain_back without.PowerOn = plain_says without.PowerOn (codes "power_on") refl refl refl refl
-
-pub power_back : (n : ℕ) → n < 2 ^ 64 → line_says (written (powering n)) ≡ asks (powering n)
+pub read_back : (l : Bytes) → LabelFits l → line_says (written (reading l)) ≡ asks (reading l)
 unfolding written first_word behind_word trimmed
-power_back n k =
-    let d = decimal_digits n k in
-    sym (line_asks (codes "power " ++ decimal n) (codes "power") (32 ∷ decimal n) refl refl refl)
-    ∙ (number_there (32 ∷ decimal n) (decimal n) [] (sym (word_last (decimal n) d.word d.some)) (sym (behind_last (decimal n) d.word d.some)) (λ m u. finish_says (powering m) u) (Some n) (ne_eqb (length (decimal n)) 0 (λ z. let s = d.some in omega arith)) (sym (number_back n k))
-    ∙ sym (finish_done [] [] refl (powering n) refl))
+read_back l h =
+    let rest : Bytes = 32 ∷ label_text l in
+    let p = label_plain l h in
+    let s = label_some l in
+    let w = word_last (label_text l) p s in
+    let f : Bytes → Bytes → Line = λ m u. finish_says (reading m) u in
+    sym (line_asks (codes "read " ++ label_text l) (codes "read") rest refl refl refl)
+    ∙ (label_there rest l [] f
+    (ap (λ t. eqb (length t) 0) w ∙ ne_eqb (length (label_text l)) 0 (λ z. omega arith))
+    (sym (ap label_of w ∙ label_back l h))
+    (sym (behind_last (label_text l) p s))
+    ∙ sym (finish_done [] [] refl (reading l) refl))
+
+pub list_back : line_says (written listing) ≡ asks listing
+unfolding written first_word behind_word trimmed
+list_back = sym (finish_done [] [] refl listing refl ∙ line_asks (codes "list") (codes "list") [] refl refl refl)
+
+module _ (o a d l : Bytes) where
+  pub export_put : (b e v : Bytes) → a ≡ o ++ codes "export " → b ≡ a ++ label_text l → d ≡ b ++ (32 ∷ []) → e ≡ d ++ value_text v → e ≡ o ++ written (exporting l v)
+  unfolding written
+  export_put b e v p q r s =
+      s
+      ∙ (ap (λ t. t ++ value_text v) (r ∙ ap (λ t. t ++ (32 ∷ [])) (q ∙ ap (λ t. t ++ label_text l) p))
+      ∙ (append_assoc ((o ++ codes "export ") ++ label_text l) (32 ∷ []) (value_text v)
+      ∙ (append_assoc (o ++ codes "export ") (label_text l) (32 ∷ value_text v)
+      ∙ append_assoc o (codes "export ") (label_text l ++ (32 ∷ value_text v)))))
+
+  pub read_put : a ≡ o ++ codes "read " → d ≡ a ++ label_text l → d ≡ o ++ written (reading l)
+  unfolding written
+  read_put p q = q ∙ (ap (λ t. t ++ label_text l) p ∙ append_assoc o (codes "read ") (label_text l))
+
+pub list_put : (o d : Bytes) → d ≡ o ++ codes "list" → d ≡ o ++ written listing
+unfolding written
+list_put o d p = p

@@ -1,14 +1,10 @@
 -- How values and calls are written, so that a script reads them back.
-use Rattle.std.specs.Prelude.{◌≡◌, ℕ, Bool, true, cond, not, ◌&&◌, [], ◌∷◌, ◌++◌, length, codes, decimal, ◌==◌, ◌≢◌, nat_le}
+use Rattle.std.specs.Prelude.{◌≡◌, ℕ, Bool, true, cond, not, ◌&&◌, [], ◌∷◌, ◌++◌, length, codes, ◌==◌, ◌≢◌, nat_le}
 use Rattle.std.specs.List.{AllByRecursion, list_all}
 use Rattle.script.specs.Words.{Bytes, plain}
 use Rattle.script.specs.Hex.{hex}
 use Rattle.script.specs.Values.{quote, hex_mark}
-use Rattle.script.specs.Commands.{Call, exporting, patching, on, plainly, powering, asks, line_says}
-use Rattle.script.specs.declared.command.Labelled.{Labelled}
-use Rattle.script.specs.declared.command.Labelled.TheVariants as labelled
-use Rattle.script.specs.declared.command.Plain.{Plain}
-use Rattle.script.specs.declared.command.Plain.TheVariants as without
+use Rattle.script.specs.Commands.{Call, exporting, reading, listing, asks, line_says}
 
 -- a byte that is shown as it stands: printable ASCII, but for the quote
 abbrev pub shown_byte : ℕ → Bool
@@ -26,27 +22,11 @@ value_text v = cond (printable v) (quote ∷ (v ++ (quote ∷ []))) (hex_mark �
 abbrev pub label_text : Bytes → Bytes
 label_text l = cond (length l == 0) (quote ∷ quote ∷ []) l
 
--- the first word of a call, with a space where a label follows
-abbrev pub labelled_word : Labelled → Bytes
-labelled_word labelled.Read = codes "read "
-labelled_word labelled.SizeKey = codes "size_key "
-labelled_word labelled.Erase = codes "erase "
-labelled_word labelled.ErasePrefix = codes "erase_prefix "
-labelled_word labelled.ListDir = codes "list_dir "
-labelled_word labelled.SizePrefix = codes "size_prefix "
-
-abbrev pub plain_word : Plain → Bytes
-plain_word without.List = codes "list"
-plain_word without.Size = codes "size"
-plain_word without.PowerOn = codes "power_on"
-
 -- a call
 unfoldable pub written : Call → Bytes
 written (exporting l v) = codes "export " ++ (label_text l ++ (32 ∷ value_text v))
-written (patching l n v) = codes "patch " ++ (label_text l ++ (32 ∷ (decimal n ++ (32 ∷ value_text v))))
-written (on w l) = labelled_word w ++ label_text l
-written (plainly w) = plain_word w
-written (powering n) = codes "power " ++ decimal n
+written (reading l) = codes "read " ++ label_text l
+written listing = codes "list"
 
 -- a label that a word can stand for: no blanks, and not two quotes
 abbrev pub LabelFits : Bytes → Type 0
@@ -54,10 +34,8 @@ LabelFits l = AllByRecursion (λ b. plain b ≡ true) l × (l ≢ quote ∷ quot
 
 abbrev pub CallFits : Call → Type 0
 CallFits (exporting l v) = LabelFits l
-CallFits (patching l n v) = LabelFits l
-CallFits (on w l) = LabelFits l
-CallFits (plainly w) = Unit {0}
-CallFits (powering n) = Unit {0}
+CallFits (reading l) = LabelFits l
+CallFits listing = Unit {0}
 
 -- behind `before` now stands the call c as a line, and that line says c
 abbrev pub WrittenAs : Call → Bytes → Bytes → Type 0

@@ -1,19 +1,16 @@
-//! How a call was answered.
-ghost use Rattle.std.specs.Prelude.{◌≡◌, ◌∷◌, ◌++◌, take, codes, decimal, Some, OnOk};
+//! How a call was answered, and the lines that say so.
+ghost use Rattle.std.specs.Prelude.{◌≡◌, ◌++◌, Some, IfSome, OnOk};
 ghost use Rattle.std.specs.List.{flat_map};
-ghost use Rattle.storage.specs.Faults.{number};
+ghost use Rattle.keys.specs.StoreKeys.{text};
 ghost use Rattle.script.specs.Commands.{call_of, mistake_of};
-ghost use Rattle.transcript.specs.Answers.{refused_text, mistake_text, head_text, count_text, sized_text, row_label, counted_text, dir_text, answer_text};
+ghost use Rattle.transcript.specs.Answers.{refusal_text, mistake_text, head_text, count_text, key_text, done_text, sized_text, counted_text, answer_text};
 ghost use Rattle.transcript.specs.Written.{label_text};
 
-use crate::write::{labelled_word, plain_word, write_label, write_shown, write_value};
-use keys::row::Row;
-use listings::listing::StoreKeysPrefixes;
-use runs::call::Answer;
+use crate::write::{write_label, write_value};
+use keys::store_key::StoreKey;
 use script::command::{Command, ParseError};
 use std::alloc::AllocError;
 use std::fmt;
-use storage::fault::Fault;
 
 /// A refusal, in the numbers that a line says: which it is, how many layers below the called one it arose,
 /// and the step of an export.
@@ -24,20 +21,23 @@ pub struct Refusal {
     pub step: u8,
 }
 
-impl From<Fault> for Refusal {
-    ghost from_gives = { λ f r. (r.number ≡ number f.cause) × (r.layer ≡ f.depth) × (r.step ≡ f.step) };
-
-    fn from(fault: Fault) -> Refusal {
-        Refusal {
-            number: fault.cause.number(),
-            layer: fault.depth,
-            step: fault.step,
-        }
-    }
+/// How a call was answered.
+#[derive(Drop)]
+pub enum Answer {
+    /// That many bytes were exported.
+    Done(usize),
+    /// The call was refused.
+    Refused(Refusal),
+    /// The bytes of a label.
+    Value(Vec<u8>),
+    /// Nothing stands under the label.
+    Absent,
+    /// The stored keys.
+    Keys(Vec<StoreKey>),
 }
 
 impl fmt::Display for Refusal {
-    ghost output = { λ r. Some (refused_text r.number r.layer r.step) };
+    ghost output = { λ r. Some (refusal_text r) };
 
     fn fmt<W: fmt::Write>(&self, f: &mut fmt::Formatter<W>) -> fmt::Result {
         let Refusal {
@@ -49,21 +49,32 @@ impl fmt::Display for Refusal {
     }
 }
 
-/// A number and what is counted, by its name for one and for another number.
+/// A number and what is counted.
 #[derive(Clone, Copy)]
-pub(crate) struct Count<'a>(pub u64, pub &'a str, pub &'a str);
+pub(crate) struct Count<'a>(pub u64, pub &'a str);
 
 impl fmt::Display for Count<'_> {
-    ghost output = { λ c. Some (count_text c.0 c.1.now c.2.now) };
+    ghost output = { λ c. Some (count_text c.0 c.1.now) };
 
     fn fmt<W: fmt::Write>(&self, f: &mut fmt::Formatter<W>) -> fmt::Result {
-        let Count(number, one, many) = *self;
+        let Count(number, what) = *self;
         if number == 1 {
-            write!(f, "{number} {one}")
+            write!(f, "{number} {what}")
         } else {
-            write!(f, "{number} {many}")
+            write!(f, "{number} {what}s")
         }
     }
+}
+
+/// Writes what is shown of a value.
+pub(crate) fn write_shown<D: fmt::Display + Drop>(
+    out: &mut Vec<u8>,
+    shown: D,
+) -> Result<(), AllocError>
+    ensures { OnOk result (IfSome (D.output shown) (λ text. out.new.items ≡ out.old.items ++ text)) }
+{
+    let text = format!(in *out.allocator(); "{shown}")?;
+    out.extend_from_slice(text.as_bytes())
 }
 
 /// Writes what is wrong with a line, with the bytes that it is about.
@@ -76,11 +87,7 @@ pub(crate) fn write_mistake(out: &mut Vec<u8>, error: &ParseError) -> Result<(),
             out.push(b' ')?;
             out.extend_from_slice(bytes)
         }
-        ParseError::NoLabel
-        | ParseError::NoValue
-        | ParseError::BadValue
-        | ParseError::NoNumber
-        | ParseError::BadNumber => Ok(()),
+        ParseError::NoLabel | ParseError::NoValue | ParseError::BadValue => Ok(()),
     }
 }
 
@@ -92,84 +99,50 @@ fn write_labelled(out: &mut Vec<u8>, front: &[u8], label: &[u8]) -> Result<(), A
     write_label(out, label)
 }
 
-/// Writes a patch's label and offset.
-fn write_patched(out: &mut Vec<u8>, label: &[u8], offset: u64) -> Result<(), AllocError>
-    ensures { OnOk result (out.new.items ≡ out.old.items ++ (codes "patch " ++ (label_text label.now ++ (32 ∷ decimal offset)))) }
-{
-    out.extend_from_slice(b"patch ")?;
-    write_label(out, label)?;
-    write_shown(out, format_args!(" {offset}"))
-}
-
 /// Writes a call, less its value.
 pub(crate) fn write_head(out: &mut Vec<u8>, command: &Command) -> Result<(), AllocError>
     ensures { OnOk result (out.new.items ≡ out.old.items ++ head_text (call_of command.now)) }
 {
     match command {
         Command::Export { label, value: _ } => write_labelled(out, b"export ", label),
-        Command::Patch {
-            label,
-            offset,
-            value: _,
-        } => write_patched(out, label, *offset),
-        Command::On { what, label } => write_labelled(out, labelled_word(*what), label),
-        Command::Plain(what) => out.extend_from_slice(plain_word(*what)),
-        Command::Power { writes } => write_shown(out, format_args!("power {writes}")),
+        Command::Read { label } => write_labelled(out, b"read ", label),
+        Command::List => out.extend_from_slice(b"list"),
     }
 }
 
-/// The first items, or all where there are no more.
-fn front<T>(items: &[T], n: usize) -> &[T]
-    ensures { result.now ≡ take n items.now }
+/// Writes keys, each behind a space.
+fn write_keys(out: &mut Vec<u8>, keys: &[StoreKey]) -> Result<(), AllocError>
+    ensures { OnOk result (out.new.items ≡ out.old.items ++ flat_map key_text keys.now) }
 {
-    items.get(..n).unwrap_or(items)
-}
-
-/// Writes rows, each behind a space.
-fn write_rows(out: &mut Vec<u8>, rows: &[Row]) -> Result<(), AllocError>
-    ensures { OnOk result (out.new.items ≡ out.old.items ++ flat_map row_label rows.now) }
-{
-    for row in rows {
-        write_labelled(out, b" ", row.as_bytes())?;
+    for key in keys {
+        write_labelled(out, b" ", key.as_bytes())?;
     }
     Ok(())
 }
 
-/// Writes a value of that many bytes, which lie at the front of a buffer.
-fn write_sized(out: &mut Vec<u8>, n: usize, buffer: &[u8]) -> Result<(), AllocError>
-    ensures { OnOk result (out.new.items ≡ out.old.items ++ sized_text n buffer.now) }
+/// Writes a value with the number of its bytes.
+fn write_sized(out: &mut Vec<u8>, value: &[u8]) -> Result<(), AllocError>
+    ensures { OnOk result (out.new.items ≡ out.old.items ++ sized_text value.now) }
 {
-    let bytes = Count(n as u64, "byte", "bytes");
-    write_shown(out, format_args!("{bytes} "))?;
-    write_value(out, front(buffer, n))
+    write_shown(out, Count(value.len() as u64, "byte"))?;
+    out.push(b' ')?;
+    write_value(out, value)
 }
 
-/// Writes that many rows, which lie at the front of a buffer, behind their number.
-fn write_counted(
-    out: &mut Vec<u8>,
-    n: usize,
-    one: &str,
-    many: &str,
-    rows: &[Row],
-) -> Result<(), AllocError>
-    ensures { OnOk result (out.new.items ≡ out.old.items ++ counted_text n one.now many.now rows.now) }
+/// Writes keys with their number.
+fn write_counted(out: &mut Vec<u8>, keys: &[StoreKey]) -> Result<(), AllocError>
+    ensures { OnOk result (out.new.items ≡ out.old.items ++ counted_text keys.now) }
 {
-    write_shown(out, Count(n as u64, one, many))?;
-    write_rows(out, front(rows, n))
+    write_shown(out, Count(keys.len() as u64, "key"))?;
+    write_keys(out, keys)
 }
 
-/// Writes the keys and prefixes of a directory.
-fn write_dir(
-    out: &mut Vec<u8>,
-    found: &StoreKeysPrefixes,
-    keys: &[Row],
-    prefixes: &[Row],
-) -> Result<(), AllocError>
-    ensures { OnOk result (out.new.items ≡ out.old.items ++ dir_text found.now keys.now prefixes.now) }
+/// Writes how many bytes were exported.
+fn write_done(out: &mut Vec<u8>, n: usize) -> Result<(), AllocError>
+    ensures { OnOk result (out.new.items ≡ out.old.items ++ done_text n) }
 {
-    write_counted(out, found.keys, "key", "keys", keys)?;
-    out.extend_from_slice(b", ")?;
-    write_counted(out, found.prefixes, "prefix", "prefixes", prefixes)
+    out.extend_from_slice(b"done, ")?;
+    write_shown(out, Count(n as u64, "byte"))
 }
 
 /// Writes how a call was answered.
@@ -177,25 +150,10 @@ pub(crate) fn write_answer(out: &mut Vec<u8>, answer: &Answer) -> Result<(), All
     ensures { OnOk result (out.new.items ≡ out.old.items ++ answer_text answer.now) }
 {
     match answer {
-        Answer::Wrote(Ok(())) | Answer::Patched(Ok(()), _) => out.extend_from_slice(b"done"),
-        Answer::Size(None)
-        | Answer::Key(None)
-        | Answer::Read(Ok(None), _)
-        | Answer::ReadMany(Ok(None), _, _) => out.extend_from_slice(b"absent"),
-        Answer::Size(Some(n)) | Answer::Total(n) => write_shown(out, Count(*n, "byte", "bytes")),
-        Answer::Key(Some(key)) => write_label(out, key.as_bytes()),
-        Answer::Read(Ok(Some(n)), buffer) | Answer::ReadMany(Ok(Some(n)), buffer, _) => {
-            write_sized(out, *n, buffer.as_slice())
-        }
-        Answer::Listed(Ok(n), rows) => write_counted(out, *n, "key", "keys", rows.as_slice()),
-        Answer::ListedDir(Ok(found), keys, prefixes) => {
-            write_dir(out, found, keys.as_slice(), prefixes.as_slice())
-        }
-        Answer::Wrote(Err(fault))
-        | Answer::Patched(Err(fault), _)
-        | Answer::Read(Err(fault), _)
-        | Answer::ReadMany(Err(fault), _, _)
-        | Answer::Listed(Err(fault), _)
-        | Answer::ListedDir(Err(fault), _, _) => write_shown(out, Refusal::from(*fault)),
+        Answer::Done(n) => write_done(out, *n),
+        Answer::Refused(refusal) => write_shown(out, *refusal),
+        Answer::Value(value) => write_sized(out, value.as_slice()),
+        Answer::Absent => out.extend_from_slice(b"absent"),
+        Answer::Keys(keys) => write_counted(out, keys.as_slice()),
     }
 }

@@ -1,13 +1,12 @@
-//! Values and labels written as a script has them.
-ghost use Rattle.std.specs.Prelude.{◌≡◌, ◌++◌, Some, IfSome, OnOk};
-ghost use Rattle.script.specs.Commands.{call_of, exporting, patching, on, plainly, powering};
+//! Values and calls written as a script has them.
+ghost use Rattle.std.specs.Prelude.{◌≡◌, ◌++◌, Some, OnOk};
+ghost use Rattle.script.specs.Commands.{call_of, exporting, reading};
 ghost use Rattle.script.specs.Values.{value_said};
-ghost use Rattle.transcript.specs.Written.{shown_byte, printable, value_text, label_text, labelled_word, plain_word, WrittenAs};
+ghost use Rattle.transcript.specs.Written.{shown_byte, printable, value_text, label_text, WrittenAs};
 
-use script::command::{Command, Labelled, Plain};
+use script::command::Command;
 use script::hex::encode;
 use std::alloc::AllocError;
-use std::fmt;
 
 /// True for printable ASCII other than a quote.
 fn is_shown(b: u8) -> bool
@@ -58,42 +57,6 @@ pub(crate) fn write_label(out: &mut Vec<u8>, label: &[u8]) -> Result<(), AllocEr
     }
 }
 
-/// Writes what is shown of a value.
-pub(crate) fn write_shown<D: fmt::Display + Drop>(
-    out: &mut Vec<u8>,
-    shown: D,
-) -> Result<(), AllocError>
-    ensures { OnOk result (IfSome (D.output shown) (λ text. out.new.items ≡ out.old.items ++ text)) }
-{
-    let text = format!(in *out.allocator(); "{shown}")?;
-    out.extend_from_slice(text.as_bytes())
-}
-
-/// The first word of a call on a label or a prefix, and a space.
-pub(crate) fn labelled_word(what: Labelled) -> &'static [u8]
-    ensures { result.now ≡ labelled_word what }
-{
-    match what {
-        Labelled::Read => b"read ",
-        Labelled::SizeKey => b"size_key ",
-        Labelled::Erase => b"erase ",
-        Labelled::ErasePrefix => b"erase_prefix ",
-        Labelled::ListDir => b"list_dir ",
-        Labelled::SizePrefix => b"size_prefix ",
-    }
-}
-
-/// The word of a call without a label.
-pub(crate) fn plain_word(what: Plain) -> &'static [u8]
-    ensures { result.now ≡ plain_word what }
-{
-    match what {
-        Plain::List => b"list",
-        Plain::Size => b"size",
-        Plain::PowerOn => b"power_on",
-    }
-}
-
 /// Writes an export.
 fn write_export(out: &mut Vec<u8>, label: &[u8], bytes: &[u8]) -> Result<(), AllocError>
     ensures { OnOk result (WrittenAs (exporting label.now bytes.now) out.old.items out.new.items) }
@@ -104,36 +67,12 @@ fn write_export(out: &mut Vec<u8>, label: &[u8], bytes: &[u8]) -> Result<(), All
     write_value(out, bytes)
 }
 
-/// Writes an export of a patch.
-fn write_patch(out: &mut Vec<u8>, label: &[u8], offset: u64, bytes: &[u8]) -> Result<(), AllocError>
-    ensures { OnOk result (WrittenAs (patching label.now offset bytes.now) out.old.items out.new.items) }
+/// Writes a reading.
+fn write_read(out: &mut Vec<u8>, label: &[u8]) -> Result<(), AllocError>
+    ensures { OnOk result (WrittenAs (reading label.now) out.old.items out.new.items) }
 {
-    out.extend_from_slice(b"patch ")?;
-    write_label(out, label)?;
-    write_shown(out, format_args!(" {offset} "))?;
-    write_value(out, bytes)
-}
-
-/// Writes a call on a label or a prefix.
-fn write_on(out: &mut Vec<u8>, what: Labelled, label: &[u8]) -> Result<(), AllocError>
-    ensures { OnOk result (WrittenAs (on what label.now) out.old.items out.new.items) }
-{
-    out.extend_from_slice(labelled_word(what))?;
+    out.extend_from_slice(b"read ")?;
     write_label(out, label)
-}
-
-/// Writes a call without a label.
-fn write_plain(out: &mut Vec<u8>, what: Plain) -> Result<(), AllocError>
-    ensures { OnOk result (WrittenAs (plainly what) out.old.items out.new.items) }
-{
-    out.extend_from_slice(plain_word(what))
-}
-
-/// Writes how many writes the device takes.
-fn write_power(out: &mut Vec<u8>, writes: u64) -> Result<(), AllocError>
-    ensures { OnOk result (WrittenAs (powering writes) out.old.items out.new.items) }
-{
-    write_shown(out, format_args!("power {writes}"))
 }
 
 /// Writes a command as a line of a script, which reads back as the same call.
@@ -145,16 +84,7 @@ pub fn write_command(out: &mut Vec<u8>, command: &Command) -> Result<(), AllocEr
             let bytes = value.to_bytes(*out.allocator())?;
             write_export(out, label, bytes.as_slice())
         }
-        Command::Patch {
-            label,
-            offset,
-            value,
-        } => {
-            let bytes = value.to_bytes(*out.allocator())?;
-            write_patch(out, label, *offset, bytes.as_slice())
-        }
-        Command::On { what, label } => write_on(out, *what, label),
-        Command::Plain(what) => write_plain(out, *what),
-        Command::Power { writes } => write_power(out, *writes),
+        Command::Read { label } => write_read(out, label),
+        Command::List => out.extend_from_slice(b"list"),
     }
 }
