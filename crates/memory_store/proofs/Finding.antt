@@ -1,88 +1,56 @@
--- What a binary search in ascending keys finds.
-use Rattle.std.proofs.Common.{◌≡◌, ℕ, ◌+◌, vec_items, false, Some, None, subst, zero, suc, ◌<◌, ◌≤◌, true, List, [], ◌∷◌, length, get_or, take, drop, Ordering, Less, Equal, Greater, Ok, Err, Result, sym, refl, ap, ◌∙◌, arith}
-use Rattle.std.specs.List.Sorted.{IsBinarySearchResult, IsNonDecreasingBy, IsSearchInRange}
+-- What one comparison in ascending keys says of the others, and what a search in a table found.
+use Rattle.std.proofs.Common.{◌≡◌, ℕ, ◌+◌, ◌<◌, ◌≤◌, vec_items, true, Some, None, subst, List, [], ◌∷◌, ◌++◌, length, get_or, take, drop, Less, Equal, Greater, Ok, Err, Result, sym, refl, ap, ◌∙◌}
+use Rattle.std.proofs.lemmas.List.{get_or_default, take-append-drop, drop_all, take_more, drop_more}
 use Rattle.std.specs.Result.{result_ok}
-use Rattle.std.specs.Ordering.{is_lt, ordering_index, ordering_reverse}
+use Rattle.std.specs.Ordering.{is_lt, ordering_reverse}
 use Rattle.keys.specs.Text.{Bytes}
 use Rattle.keys.specs.StoreKeys.{text}
 use Rattle.keys.specs.ByteOrder.{compare_bytes}
 use Rattle.keys.specs.ByteOrderLemmas.{bytes_lawful}
-use Rattle.storage.specs.Contents.{earlier, found, ascending, all_before, all_after}
-use Rattle.storage.proofs.Order.{clash}
-use Rattle.storage.proofs.Ascends.{ascending_parts, after_parts, after_cons, before_cons}
+use Rattle.storage.specs.Contents.{earlier, found, ascending, all_before, all_after, Gap}
+use Rattle.storage.proofs.Ascends.{ascending_split, before_trans, before_append, before_cons, after_trans, after_cons}
 use Rattle.memory_store.specs.declared.slot.Slot.{Slot}
 use Rattle.memory_store.specs.Slots.{slot_keys, lens, Placed}
+use Rattle.memory_store.specs.Cuts.{slot_keys-append}
 use Rattle.memory_store.specs.declared.table.Table.{Table}
 use Rattle.memory_store.specs.Memories.{packed}
 use Rattle.memory_store.specs.Tables.{tabled}
 use Rattle.memory_store.specs.TablesLemmas.{absent_there, ends, found_there}
 
--- how the keys stand to k
-abbrev stands : Bytes → Slot → Ordering
-stands k s = compare_bytes (text s.key) k
+pub none_behind : (ss : List Slot) (n : ℕ) (k : Bytes) → length ss ≤ n → all_after k (slot_keys (drop n ss)) ≡ true
+unfolding all_after slot_keys
+none_behind ss n k h = ap (λ (x : List Slot). all_after k (slot_keys x)) (drop_all n ss h)
 
--- a later key stands no lower
-later : (a b k : Bytes) → compare_bytes a b ≡ Less → ordering_index (compare_bytes a k) ≤ ordering_index (compare_bytes b k)
-later a b k h = go (compare_bytes a k) refl
-  where
-    go : (o : Ordering) → compare_bytes a k ≡ o → ordering_index o ≤ ordering_index (compare_bytes b k)
-    go Less e = omega arith
-    go Equal e =
-        let same-key = bytes_lawful.equal a k e in
-        let back : compare_bytes b k ≡ Greater = ap (compare_bytes b) (sym same-key) ∙ bytes_lawful.total b a ∙ ap ordering_reverse h in
-        rw back (omega arith)
-    go Greater e =
-        let before = bytes_lawful.transitive k a b (bytes_lawful.total k a ∙ ap ordering_reverse e) h in
-        let back : compare_bytes b k ≡ Greater = bytes_lawful.total b k ∙ ap ordering_reverse before in
-        rw back (omega arith)
+module _ (ss : List Slot) (m : ℕ) (s d : Slot) (k : Bytes) (within : m < length ss) (here : s ≡ get_or ss m d) (ordered : ascending (slot_keys ss) ≡ true) where
+  back : drop m ss ≡ s ∷ drop (m + 1) ss
+  back = drop_more ss m d within ∙ ap (λ (x : Slot). x ∷ drop (m + 1) ss) (sym here)
 
-is_less : (o : Ordering) → is_lt o ≡ true → o ≡ Less
-is_less Less p = refl
-is_less Equal p = clash false p refl
-is_less Greater p = clash false p refl
+  keyed : slot_keys ss ≡ slot_keys (take m ss) ++ text s.key ∷ slot_keys (drop (m + 1) ss)
+  unfolding slot_keys
+  keyed =
+      ap slot_keys (sym (take-append-drop m ss) ∙ ap (λ (x : List Slot). take m ss ++ x) back)
+      ∙ slot_keys-append (take m ss) (s ∷ drop (m + 1) ss)
 
-earlier_less : (a b : Bytes) → earlier a b ≡ true → compare_bytes a b ≡ Less
-unfolding earlier
-earlier_less a b p = is_less (compare_bytes a b) p
+  gap : Gap (text s.key) (slot_keys (take m ss)) (slot_keys (drop (m + 1) ss))
+  gap = ascending_split (slot_keys (take m ss)) (text s.key) (slot_keys (drop (m + 1) ss)) (ap ascending (sym keyed) ∙ ordered)
 
--- the first key stands no higher than those behind it
-first_lowest : (s : Slot) (ss : List Slot) (k : Bytes) → all_after (text s.key) (slot_keys ss) ≡ true → (j : ℕ) (d : Slot) → j < length ss → ordering_index (stands k s) ≤ ordering_index (stands k (get_or ss j d))
-unfolding slot_keys
-first_lowest s [] k h j d l = absurd (omega arith)
-first_lowest s (t ∷ ss) k h zero d l = later (text s.key) (text t.key) k (earlier_less _ _ (after_parts (text s.key) (text t.key) (slot_keys ss) h).0)
-first_lowest s (t ∷ ss) k h (suc j) d l = first_lowest s ss k (after_parts (text s.key) (text t.key) (slot_keys ss) h).1 j d (omega arith)
+  pub all_before_lem : Less ≡ compare_bytes (text s.key) k → all_before (slot_keys (take (m + 1) ss)) k ≡ true
+  unfolding earlier slot_keys all_before
+  all_before_lem h =
+      let e : earlier (text s.key) k ≡ true = ap is_lt (sym h) in
+      ap (λ (x : List Slot). all_before (slot_keys x) k) (take_more ss m d within ∙ ap (λ (x : Slot). take m ss ++ (x ∷ [])) (sym here))
+      ∙ ap (λ x. all_before x k) (slot_keys-append (take m ss) (s ∷ []))
+      ∙ before_append (slot_keys (take m ss)) (text s.key ∷ []) k (before_trans _ _ k e gap.below) (before_cons (text s.key) k [] e refl)
 
-rising : (ss : List Slot) (k : Bytes) → ascending (slot_keys ss) ≡ true → IsNonDecreasingBy (λ s. ordering_index (stands k s)) ss
-unfolding slot_keys
-rising [] k up i j d h l = absurd (omega arith)
-rising (s ∷ ss) k up zero zero d h l = omega arith
-rising (s ∷ ss) k up zero (suc j) d h l = first_lowest s ss k (ascending_parts (text s.key) (slot_keys ss) up).0 j d (omega arith)
-rising (s ∷ ss) k up (suc i) zero d h l = absurd (omega arith)
-rising (s ∷ ss) k up (suc i) (suc j) d h l = rising ss k (ascending_parts (text s.key) (slot_keys ss) up).1 i j d (omega arith) (omega arith)
+  pub all_after_lem : Greater ≡ compare_bytes (text s.key) k → all_after k (slot_keys (drop m ss)) ≡ true
+  unfolding earlier slot_keys
+  all_after_lem h =
+      let e : earlier k (text s.key) ≡ true = ap is_lt (bytes_lawful.total k (text s.key) ∙ ap ordering_reverse (sym h)) in
+      ap (λ (x : List Slot). all_after k (slot_keys x)) back
+      ∙ after_cons k (text s.key) (slot_keys (drop (m + 1) ss)) e (after_trans k (text s.key) _ e gap.above)
 
-below : (ss : List Slot) (k : Bytes) (i : ℕ) → ((n : ℕ) (d : Slot) → n < i → stands k (get_or ss n d) ≡ Less) → i ≤ length ss → all_before (slot_keys (take i ss)) k ≡ true
-unfolding slot_keys all_before earlier
-below ss k zero h l = refl
-below [] k (suc i) h l = absurd (omega arith)
-below (s ∷ ss) k (suc i) h l =
-    before_cons (text s.key) k (slot_keys (take i ss)) (ap is_lt (h 0 s (omega arith))) (below ss k i (λ n d m. h (suc n) d (omega arith)) (omega arith))
-
-above : (ss : List Slot) (k : Bytes) (i : ℕ) → ((n : ℕ) (d : Slot) → i ≤ n → n < length ss → stands k (get_or ss n d) ≡ Greater) → all_after k (slot_keys (drop i ss)) ≡ true
-unfolding slot_keys all_after earlier
-above [] k zero h = refl
-above [] k (suc i) h = refl
-above (s ∷ ss) k zero h =
-    after_cons k (text s.key) (slot_keys ss)
-    (ap is_lt (bytes_lawful.total k (text s.key) ∙ ap ordering_reverse (h 0 s (omega arith) (omega arith))))
-    (above ss k zero (λ n d m l. h (suc n) d (omega arith) (omega arith)))
-above (s ∷ ss) k (suc i) h = above ss k i (λ n d m l. h (suc n) d (omega arith) (omega arith))
-
--- an element that stands equal is the key; else the place lies between the lower and the higher ones
-pub placed : (ss : List Slot) (k : Bytes) (r : Result ℕ ℕ) → ascending (slot_keys ss) ≡ true → IsSearchInRange r (length ss) → IsBinarySearchResult (stands k) ss r → Placed k ss r
-placed ss k (Ok i) up l h = (l, λ s is. bytes_lawful.equal (text s.key) k (ap (stands k) is ∙ h s))
-placed ss k (Err i) up l h =
-    let p = h (rising ss k up) in
-    (l, record { below = below ss k i (λ n d m. p.0 n d (omega arith) m) l; above = above ss k i p.1 })
+  pub found_here : Equal ≡ compare_bytes (text s.key) k → (t : Slot) → t ≡ get_or ss m t → text t.key ≡ k
+  found_here h t e = ap (λ (x : Slot). text x.key) (e ∙ get_or_default ss m t d within ∙ sym here) ∙ bytes_lawful.equal (text s.key) k (sym h)
 
 -- what was found of a key in a table, whose slots were searched behind a reference
 module _ (t : Table) (k : Bytes) (ss : List Slot) (r : Result ℕ ℕ) (same-slots : ss ≡ vec_items t.slots) (p : Placed k ss r) where
