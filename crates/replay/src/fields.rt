@@ -27,10 +27,13 @@ pub fn bytes_of(word: &[u8], heap: Global) -> Result<Vec<u8>, AllocError> {
 
 /// The number that decimal digits stand for.
 pub fn number_of(word: &[u8]) -> Option<u64> {
-    if !word.iter().all(|b| b.is_ascii_digit()) {
+    if word.is_empty() {
         return None;
     }
-    str::from_utf8(word).ok()?.parse().ok()
+    word.iter().try_fold(0u64, |n, b| {
+        let digit = char::from(*b).to_digit(10)?;
+        n.checked_mul(10)?.checked_add(u64::from(digit))
+    })
 }
 
 /// Writes bytes: `-` for none, else pairs of hexadecimal digits.

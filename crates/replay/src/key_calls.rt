@@ -4,6 +4,7 @@ use crate::outcome::{Failure, Outcome, accepted, answered, ordered};
 use atomic_write::atomic_write::temporary_key;
 use keys::store_key::StoreKey;
 use keys::store_prefix::StorePrefix;
+use order::total_order::TotalOrder;
 use std::alloc::Global;
 
 /// What is asked of a key.
@@ -71,7 +72,10 @@ impl KeyCall {
                     answered(b"false", heap)
                 }
             }
-            KeyCall::Order => ordered(first.cmp(&made(second, heap, StoreKey::new)?), heap),
+            KeyCall::Order => {
+                let second = made(second, heap, StoreKey::new)?;
+                ordered(first.compare(&second), heap)
+            }
         }
     }
 }
@@ -99,7 +103,10 @@ impl PrefixCall {
                 Some(parent) => Ok(written(parent.as_bytes(), heap)?),
                 None => answered(b"none", heap),
             },
-            PrefixCall::Order => ordered(first.cmp(&made(second, heap, StorePrefix::new)?), heap),
+            PrefixCall::Order => {
+                let second = made(second, heap, StorePrefix::new)?;
+                ordered(first.compare(&second), heap)
+            }
         }
     }
 }

@@ -87,19 +87,14 @@ fn compare<'a>(
     expected: &'a [u8],
     heap: Global,
 ) -> Result<Verdict<'a>, AllocError> {
-    let (got, panics) = match answer(call, heap) {
-        Ok(words) => (words, false),
-        Err(Failure::Refused(refusal)) => {
-            let words = format!(in heap; "{refusal}")?;
-            (
-                Vec::from_slice(heap, words.as_bytes())?,
-                expected == b"panic".as_slice(),
-            )
-        }
+    let got = match answer(call, heap) {
+        Ok(words) => words,
+        Err(Failure::Refused(_)) if expected == b"panic".as_slice() => return Ok(Verdict::Agrees),
+        Err(Failure::Refused(refusal)) => format!(in heap; "{refusal}")?.into_bytes(),
         Err(Failure::Unknown) => return Ok(Verdict::Unknown),
         Err(Failure::Memory(error)) => return Err(error),
     };
-    if panics || got.as_slice() == expected {
+    if got.as_slice() == expected {
         return Ok(Verdict::Agrees);
     }
     Ok(Verdict::Differs {
@@ -124,7 +119,7 @@ fn replay(line: &[u8], heap: Global) -> Result<Verdict<'_>, AllocError> {
     compare(call, expected, heap)
 }
 
-/// Prints a difference.
+/// Prints a difference, by one write.
 fn print_difference(
     rt: &HostRuntime,
     number: u64,
@@ -132,13 +127,14 @@ fn print_difference(
     expected: &[u8],
     got: &[u8],
 ) -> io::Result<()> {
-    print!(rt; "line {number}: ")?;
-    rt.stdout().write_all(call)?;
-    rt.stdout().write_all(b": expected ")?;
-    rt.stdout().write_all(expected)?;
-    rt.stdout().write_all(b", got ")?;
-    rt.stdout().write_all(got)?;
-    rt.stdout().write_all(b"\n")
+    let mut line = format!(in rt.alloc(); "line {number}: ")?.into_bytes();
+    line.extend_from_slice(call)?;
+    line.extend_from_slice(b": expected ")?;
+    line.extend_from_slice(expected)?;
+    line.extend_from_slice(b", got ")?;
+    line.extend_from_slice(got)?;
+    line.push(b'\n')?;
+    rt.stdout().write_all(line.as_slice())
 }
 
 fn main(rt: HostRuntime) -> io::Result<()> {

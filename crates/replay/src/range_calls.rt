@@ -2,6 +2,7 @@
 use crate::fields::{bytes_of, cut, number_of, write_bytes, written};
 use crate::outcome::{Failure, Outcome, Refusal, ShownRange, accepted, ordered, shown};
 use extraction::{Note, Place, extract_byte_ranges, extract_byte_ranges_concat};
+use order::total_order::TotalOrder;
 use ranges::byte_range::{Bound, ByteRange, InvalidByteRangeError};
 use std::alloc::{AllocError, Global};
 
@@ -98,7 +99,7 @@ impl RangeCall {
             RangeCall::Order => {
                 let range = range_of(first).ok_or(Failure::Unknown)?;
                 let other = range_of(second).ok_or(Failure::Unknown)?;
-                ordered(range.cmp(&other), heap)
+                ordered(range.compare(&other), heap)
             }
         }
     }
