@@ -24,11 +24,11 @@ marked t = starts_with nat_eq t (underscore ∷ underscore ∷ [])
 abbrev begun : Bytes → Bool
 begun t = starts_with nat_eq t (underscore ∷ [])
 
-abbrev Marked : Bytes → Type 0
+abbrev pub Marked : Bytes → Type 0
 Marked t = (v : Bytes) × (t ≡ underscore ∷ underscore ∷ v)
 
 -- two underscores stand behind a slash
-abbrev MarkedBehind : Bytes → Type 0
+abbrev pub MarkedBehind : Bytes → Type 0
 MarkedBehind t = (u : Bytes) × (v : Bytes) × (t ≡ u ++ (slash ∷ underscore ∷ underscore ∷ v))
 
 marked_decides : (t : Bytes) → Decides (marked t) (Marked t)
@@ -97,7 +97,7 @@ cut (x ∷ xs) = by (cut xs) (is_slash x) refl
           );
         }
 
-reserved_from : (t : Bytes) → Marked t ⊎ MarkedBehind t → Reserved t
+pub reserved_from : (t : Bytes) → Marked t ⊎ MarkedBehind t → Reserved t
 reserved_from t (inl (v, e)) = ([], v, e, final_nil)
 reserved_from t (inr (u, v, e)) = (u ++ (slash ∷ []), v, e ∙ sym (append_assoc u (slash ∷ []) (underscore ∷ underscore ∷ v)), final_from_ends (u ++ (slash ∷ [])) (u, refl))
 

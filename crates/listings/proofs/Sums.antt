@@ -60,7 +60,7 @@ module _ (p : Bytes) (c : Contents) where
     abbrev entry : Entry
     entry = get_or c n (record { key = k; value = [] })
 
-    within : n < length c
+    pub within : n < length c
     within = omega (arith, (key_there (keys_of c) n k there).0, length-map c (λ e. e.key))
 
     named : entry.key ≡ k
