@@ -1,4 +1,5 @@
 use keys::store_prefix::StorePrefix;
+use order::total_order::TotalOrder;
 use std::cmp::Ordering;
 
 /// The number with which bytes are refused as a prefix; none for a prefix.
@@ -18,7 +19,7 @@ fn parent_is(bytes: &[u8], parent: &[u8]) -> bool {
 }
 
 fn order(a: &[u8], b: &[u8]) -> Ordering {
-    prefix(a).cmp(&prefix(b))
+    prefix(a).compare(&prefix(b))
 }
 
 #[test]

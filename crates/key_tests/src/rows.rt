@@ -1,6 +1,7 @@
 use keys::row::Row;
 use keys::store_key::StoreKey;
 use keys::store_prefix::StorePrefix;
+use order::total_order::TotalOrder;
 use std::cmp::Ordering;
 
 /// The row of a key's bytes, or the empty row.
@@ -61,10 +62,10 @@ fn odd_rows(rt: HostRuntime) {
 
 #[test]
 fn row_order(rt: HostRuntime) {
-    assert_eq!(rt; key_row(b"a").cmp(&key_row(b"ab")), Ordering::Less);
-    assert_eq!(rt; key_row(b"ab").cmp(&key_row(b"a")), Ordering::Greater);
-    assert_eq!(rt; key_row(b"a").cmp(&key_row(b"a")), Ordering::Equal);
-    assert_eq!(rt; slashes(0).cmp(&Row::empty()), Ordering::Greater);
-    assert_eq!(rt; slashes(122).cmp(&slashes(121)), Ordering::Greater);
+    assert_eq!(rt; key_row(b"a").compare(&key_row(b"ab")), Ordering::Less);
+    assert_eq!(rt; key_row(b"ab").compare(&key_row(b"a")), Ordering::Greater);
+    assert_eq!(rt; key_row(b"a").compare(&key_row(b"a")), Ordering::Equal);
+    assert_eq!(rt; slashes(0).compare(&Row::empty()), Ordering::Greater);
+    assert_eq!(rt; slashes(122).compare(&slashes(121)), Ordering::Greater);
     assert!(rt; slashes(122) != slashes(121));
 }

@@ -1,5 +1,6 @@
 use keys::store_key::{StoreKey, StoreKeyError};
 use keys::store_prefix::StorePrefix;
+use order::total_order::TotalOrder;
 use std::cmp::Ordering;
 
 /// The number with which bytes are refused as a key; none for a key.
@@ -46,7 +47,7 @@ fn from_prefix(bytes: &[u8], whole: &[u8]) -> Result<bool, u8> {
 }
 
 fn order(a: &[u8], b: &[u8]) -> Ordering {
-    key(a).cmp(&key(b))
+    key(a).compare(&key(b))
 }
 
 #[test]

@@ -1,3 +1,4 @@
+use order::total_order::TotalOrder;
 use ranges::byte_range::ByteRange;
 use ranges::read_list::ReadList;
 use std::cmp::Ordering;
@@ -15,7 +16,7 @@ fn order_of_ranges(rt: HostRuntime) {
     ];
     for (i, a) in ascending.iter().enumerate() {
         for (j, b) in ascending.iter().enumerate() {
-            assert!(rt; a.cmp(b) == i.cmp(&j));
+            assert!(rt; a.compare(b) == i.cmp(&j));
         }
     }
 }
