@@ -80,8 +80,7 @@ pub fn answered(words: &[u8], heap: Global) -> Outcome {
 
 /// An answer that is shown.
 pub fn shown<D: fmt::Display + Drop>(answer: D, heap: Global) -> Outcome {
-    let text = format!(in heap; "{answer}")?;
-    answered(text.as_bytes(), heap)
+    Ok(format!(in heap; "{answer}")?.into_bytes())
 }
 
 /// An order.
