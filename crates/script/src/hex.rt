@@ -4,6 +4,13 @@ ghost use Rattle.script.specs.Hex.{is_digit, digit_value, digit_of, is_hex, unhe
 
 use std::alloc::{AllocError, Global};
 
+/// True for `0` to `9` and `a` to `f`.
+fn is_hex_digit(b: u8) -> bool
+    ensures { result ≡ is_digit b }
+{
+    b.is_ascii_digit() || matches!(b, b'a'..=b'f')
+}
+
 /// The value of a digit, `0` to `9` or `a` to `f`.
 fn digit_value(b: u8) -> Option<u8>
     ensures variant { is_some result ≡ is_digit b }
@@ -31,7 +38,7 @@ fn hex_digit(n: u8) -> u8
 pub(crate) fn is_hex(text: &[u8]) -> bool
     ensures { result ≡ is_hex text.now }
 {
-    text.iter().all(|b| digit_value(*b).is_some()) && text.len() % 2 == 0
+    text.iter().all(|b| is_hex_digit(*b)) && text.len() % 2 == 0
 }
 
 /// The byte that two digits stand for; what is no digit counts as 0.
