@@ -1,19 +1,14 @@
 -- What follows from the laws of a total order, and orders made from orders.
-use Rattle.std.proofs.Common.{◌≡◌, ◌<◌, ◌≤◌, arith, Ordering, Less, Equal, Greater, Bool, true, false, sym, refl, ap, ◌∙◌, subst, true≢false}
+use Rattle.std.proofs.Common.{◌≡◌, ◌<◌, Ordering, Less, Equal, Greater, Bool, true, false, sym, refl, ap, ◌∙◌, subst, true≢false}
 use Rattle.std.specs.Cmp.{IsTotalOrder, ranks, nat_cmp_total}
 use Rattle.std.specs.Prelude.{Decides}
-use Rattle.std.specs.Ordering.{MatchOrdering, ordering_index, ordering_reverse, ordering_then, is_eq, is_lt, is_gt, nat_cmp}
+use Rattle.std.specs.Ordering.{MatchOrdering, ordering_reverse, ordering_then, is_eq, is_lt, is_gt, nat_cmp}
 use Rattle.order.specs.Orders.{Lawful}
 
 fixed : (k : Ordering) → k ≡ ordering_reverse k → k ≡ Equal
 fixed Less e = absurd (true≢false (ap is_lt e))
 fixed Equal e = refl
 fixed Greater e = absurd (true≢false (ap is_gt e))
-
-index_small : (k : Ordering) → ordering_index k ≤ 2
-index_small Less = omega arith
-index_small Equal = omega arith
-index_small Greater = omega arith
 
 pub less_equal : Less ≡ Equal → ⊥
 less_equal e = true≢false (ap is_lt e)
@@ -34,15 +29,6 @@ module _ {X : Type 0} {c : X → X → Ordering} (o : Lawful c) where
 
   pub greater_from_less : (a b : X) → c a b ≡ Less → c b a ≡ Greater
   greater_from_less a b h = o.total b a ∙ ap ordering_reverse h
-
-  -- what comes before another answers no more than that one, of any third value
-  pub below_index : (a b x : X) → c a b ≡ Less → ordering_index (c a x) ≤ ordering_index (c b x)
-  below_index a b x h = index_by (c b x) refl
-    where
-      index_by : (k : Ordering) → c b x ≡ k → ordering_index (c a x) ≤ ordering_index (c b x)
-      index_by Less e = omega (arith, ap ordering_index (o.transitive a b x h e))
-      index_by Equal e = omega (arith, ap ordering_index e, ap ordering_index (ap (c a) (sym (o.equal b x e)) ∙ h))
-      index_by Greater e = omega (arith, ap ordering_index e, index_small (c a x))
 
   -- the laws, as the library states them of `cmp`
   pub total_order : IsTotalOrder c

@@ -1,16 +1,15 @@
 -- Sorted lists with one more element.
-use Rattle.std.proofs.Common.{◌≡◌, ℕ, ◌+◌, ◌-◌, ◌<◌, ◌≤◌, ◌⊎◌, List, [], ◌∷◌, ◌++◌, length, get_or, take, drop, Ok, Err, Ordering, Less, sym, refl, ap, ◌∙◌, subst, inl, inr, ⊎_elim, append_assoc, arith, length-append, length-drop}
+use Rattle.std.proofs.Common.{◌≡◌, ℕ, ◌+◌, ◌-◌, ◌<◌, ◌≤◌, ◌⊎◌, List, [], ◌∷◌, ◌++◌, length, get_or, take, drop, Err, Ordering, Less, Greater, sym, refl, ap, ◌∙◌, subst, inl, inr, ⊎_elim, append_assoc, arith, length-append, length-drop}
 use Rattle.std.specs.List.{between, ContainsAt as Has, AllWithin, AllByRecursion}
-use Rattle.std.specs.List.Sorted.{IsStrictlySortedBy, IsBinarySearchResult, IsNonDecreasingBy, IsSearchInRange}
-use Rattle.std.specs.Ordering.{ordering_index}
-use Rattle.std.proofs.lemmas.List.{take_at, drop_at, take-take, take-append-drop, get_or-take, get_or-drop, get_or_append_left, get_or-append_right, length-take-le}
+use Rattle.std.specs.List.Sorted.{IsStrictlySortedBy}
+use Rattle.std.proofs.lemmas.List.{take_at, drop_at, take-take, take-append-drop, get_or-take, get_or-drop, get_or_default, get_or_append_left, get_or-append_right, length-take-le}
 use Rattle.std.proofs.lemmas.Slice.{between_is}
 use Rattle.std.proofs.ByRecursion.{All-from_get_or, all-has, has_append_left, has_append_right}
 use Rattle.std.proofs.lemmas.Map.Keys.{Less-from_sorted}
 use Rattle.std.proofs.lemmas.Bool.{cases_lt}
 use Rattle.order.specs.Orders.{Lawful}
-use Rattle.order.specs.SortedLists.{Holding}
-use Rattle.order.proofs.Orders.{not_below_itself, less_from_greater, below_index}
+use Rattle.order.specs.SortedLists.{Holding, Placed}
+use Rattle.order.proofs.Orders.{not_below_itself, less_from_greater}
 
 module _ {X : Type 0} where
   all_insert : (P : X → Type 0) (xs ys : List X) (x : X) → AllByRecursion P (xs ++ ys) → P x → AllByRecursion P (xs ++ (x ∷ ys))
@@ -54,9 +53,10 @@ module _ {X : Type 0} where
       (has_append_cases xs (x ∷ ys) y h)
 
 -- a list whose element x is there already
-pub holding_same : {X : Type 0} {c : X → X → Ordering} (o : Lawful c) → (s : List X) (n i : ℕ) (x : X) → n ≤ length s → IsSearchInRange (Ok i) (length (take n s)) → IsBinarySearchResult (λ y. c y x) (take n s) (Ok i) → IsStrictlySortedBy c (take n s) → Holding c s n x s n
-holding_same o s n i x l p q up =
-    let has : Has (take n s) x = (i, p, λ d. o.equal (get_or (take n s) i d) x (q d)) in
+pub holding_same : {X : Type 0} (c : X → X → Ordering) (s : List X) (n i : ℕ) (x : X) → n ≤ length s → i < n → get_or s i x ≡ x → IsStrictlySortedBy c (take n s) → Holding c s n x s n
+holding_same c s n i x l b e up =
+    let long : length (take n s) ≡ n = length-take-le n s l in
+    let has : Has (take n s) x = (i, omega arith, λ d. get_or-take n s i d b ∙ get_or_default s i d x (omega arith) ∙ e) in
     record {
       ascends = up;
       old = λ y h. h;
@@ -69,11 +69,19 @@ holding_same o s n i x l p q up =
     }
 
 -- a list that lacks x, which goes to the place i
-module _ {X : Type 0} {c : X → X → Ordering} (o : Lawful c) (l : List X) (i : ℕ) (x : X) (up : IsStrictlySortedBy c l) (in' : i ≤ length l) (above : AllWithin (λ y. c x y ≡ Less) l i (length l)) (below : AllWithin (λ y. c y x ≡ Less) l 0 i) where
+module _ {X : Type 0} {c : X → X → Ordering} (o : Lawful c) (l : List X) (i : ℕ) (x : X) (up : IsStrictlySortedBy c l) (in' : i ≤ length l) (above : AllWithin (λ y. c x y ≡ Less) l i (length l)) (below : 0 < i → c x (get_or l (i - 1) x) ≡ Greater) where
+  under : (k : ℕ) → k < i → c (get_or l k x) x ≡ Less
+  under k h =
+      let last : c (get_or l (i - 1) x) x ≡ Less = less_from_greater o x (get_or l (i - 1) x) (below (omega arith)) in
+      elim (cases_lt k (i - 1)) [
+        | inl b ↦ o.transitive (get_or l k x) (get_or l (i - 1) x) x (Less-from_sorted c l k (i - 1) x up b (omega arith)) last
+        | inr b ↦ let e : k ≡ i - 1 = omega arith in ap (λ j. c (get_or l j x) x) e ∙ last
+      ]
+
   all_under : AllByRecursion (λ y. c y x ≡ Less) (take i l)
   all_under =
       let long : length (take i l) ≡ i = length-take-le i l in' in
-      All-from_get_or (λ y. c y x ≡ Less) (take i l) x (λ k h. let b : k < i = omega arith in ap (λ z. c z x) (get_or-take i l k x b) ∙ below k x (omega arith) b)
+      All-from_get_or (λ y. c y x ≡ Less) (take i l) x (λ k h. let b : k < i = omega arith in ap (λ z. c z x) (get_or-take i l k x b) ∙ under k b)
 
   all_above : AllByRecursion (λ y. c x y ≡ Less) (drop i l)
   all_above =
@@ -111,51 +119,35 @@ module _ {X : Type 0} (s after : List X) (i n : ℕ) (x : X) (l : i ≤ n) (h : 
   pub rest_inserted : drop (n + 1) after ≡ drop (n + 1) s
   rest_inserted = ap (λ z. drop (n + 1) z) parts ∙ drop_at (take i (take n s) ++ (x ∷ drop i (take n s))) (drop (n + 1) s) (n + 1) long
 
--- what a binary search answers of a sorted list, by the order that it goes by
-module _ {X : Type 0} {c : X → X → Ordering} (o : Lawful c) (l : List X) (x : X) (up : IsStrictlySortedBy c l) where
-  by_place : (i j : ℕ) (d : X) → i ≤ j → j < length l → ordering_index (c (get_or l i d) x) ≤ ordering_index (c (get_or l j d) x)
-  by_place i j d h k =
-      elim (cases_lt i j) [
-        | inr e ↦ let m : i ≡ j = omega arith in omega (arith, ap (λ z. ordering_index (c (get_or l z d) x)) m)
-        | inl h' ↦ below_index o (get_or l i d) (get_or l j d) x (Less-from_sorted c l i j d up h' k)
-      ]
+module _ {X : Type 0} {c : X → X → Ordering} (o : Lawful c) (s : List X) (n i : ℕ) (x : X) (l : n ≤ length s) (p : Placed c s n x (Err i)) (up : IsStrictlySortedBy c (take n s)) where
+  size : length (take n s) ≡ n
+  size = length-take-le n s l
 
-  rises : IsNonDecreasingBy (λ y. ordering_index (c y x)) l
-  rises = by_place
-
-  pub missed_above : (i : ℕ) → IsBinarySearchResult (λ y. c y x) l (Err i) → AllWithin (λ y. c x y ≡ Less) l i (length l)
-  missed_above i p k d h m = less_from_greater o (get_or l k d) x ((p rises).1 k d h m)
-
-  pub missed_below : (i : ℕ) → IsBinarySearchResult (λ y. c y x) l (Err i) → AllWithin (λ y. c y x ≡ Less) l 0 i
-  missed_below i p = (p rises).0
-
--- where a binary search of the first n finds no x
-module _ {X : Type 0} {c : X → X → Ordering} (o : Lawful c) (s : List X) (n i : ℕ) (x : X) (l : n ≤ length s) (p : IsSearchInRange (Err i) (length (take n s))) (q : IsBinarySearchResult (λ y. c y x) (take n s) (Err i)) (up : IsStrictlySortedBy c (take n s)) where
   above : AllWithin (λ y. c x y ≡ Less) (take n s) i (length (take n s))
-  above = missed_above o (take n s) x up i q
+  above k d a b = let m = size in let h : k < n = omega arith in ap (λ z. c x z) (get_or-take n s k d h) ∙ p.1 k d a h
 
-  below : AllWithin (λ y. c y x ≡ Less) (take n s) 0 i
-  below = missed_below o (take n s) x up i q
+  below : 0 < i → c x (get_or (take n s) (i - 1) x) ≡ Greater
+  below h = let b : i - 1 < n = omega arith in ap (λ z. c x z) (get_or-take n s (i - 1) x b) ∙ p.2 h
 
-  pub place_within : i ≤ n
-  place_within = let m : length (take n s) ≡ n = length-take-le n s l in omega arith
+  within : i ≤ length (take n s)
+  within = let m = size in omega arith
 
-  pub absent_from_search : Has (take n s) x → ⊥
-  absent_from_search = absent o (take n s) i x up p above below
+  pub absent_from_placed : Has (take n s) x → ⊥
+  absent_from_placed = absent o (take n s) i x up within above below
 
   pub holding_added : (after : List X) → n < length s → after ≡ take i s ++ (x ∷ (between i n s ++ drop (n + 1) s)) → Holding c s n x after (n + 1)
   holding_added after b e =
       let t : List X = take i (take n s) in
       let d : List X = drop i (take n s) in
-      let f : take (n + 1) after ≡ t ++ (x ∷ d) = front_inserted s after i n x place_within b e in
+      let f : take (n + 1) after ≡ t ++ (x ∷ d) = front_inserted s after i n x p.0 b e in
       let g : t ++ d ≡ take n s = take-append-drop i (take n s) in
       record {
-        ascends = subst (IsStrictlySortedBy c) (sym f) (ascends_inserted o (take n s) i x up p above below);
+        ascends = subst (IsStrictlySortedBy c) (sym f) (ascends_inserted o (take n s) i x up within above below);
         old = λ y h. subst (λ z. Has z y) (sym f) (has_insert t d x y (subst (λ z. Has z y) (sym g) h));
         new = subst (λ z. Has z x) (sym f) (has_append_right t (x ∷ d) x (has_first x d));
         only = λ y h. subst (λ z. Has z y ⊎ (y ≡ x)) g (has_insert_cases t d x y (subst (λ z. Has z y) f h));
-        rest = rest_inserted s after i n x place_within b e;
+        rest = rest_inserted s after i n x p.0 b e;
         within = omega arith;
-        repeated = λ h. absurd (absent_from_search h);
+        repeated = λ h. absurd (absent_from_placed h);
         added = λ _. refl;
       }

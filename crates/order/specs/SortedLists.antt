@@ -1,7 +1,8 @@
 -- The sorted list without repeats in the first n elements of a slice: what inserting into it leaves.
-use Rattle.std.specs.Prelude.{◌≡◌, ℕ, ◌+◌, ◌<◌, ◌≤◌, ◌⊎◌, List, ◌∷◌, ◌++◌, length, take, drop, Ok, Err, Result}
+use Rattle.std.specs.Prelude.{◌≡◌, ℕ, ◌+◌, ◌-◌, ◌<◌, ◌≤◌, ◌⊎◌, List, ◌∷◌, ◌++◌, length, take, drop, Ok, Err, Result, slice_index_or}
+use Rattle.std.specs.declared.cmp.Ordering.TheVariants.{Less, Greater}
 use Rattle.std.specs.declared.cmp.Ordering.{Ordering}
-use Rattle.std.specs.List.{ContainsAt as Has, between}
+use Rattle.std.specs.List.{ContainsAt as Has, AllWithin, between}
 use Rattle.std.specs.List.Sorted.{IsStrictlySortedBy}
 use Rattle.order.specs.declared.sorted_list.SortedListError.{SortedListError}
 use Rattle.order.specs.declared.sorted_list.SortedListError.TheVariants.{Full}
@@ -29,6 +30,11 @@ Left before n x after m = ((m ≡ n) × (after ≡ before)) ⊎ ((i : ℕ) × (i
 abbrev pub Inserted : {X : Type 0} → (X → X → Ordering) → List X → ℕ → X → List X → Result ℕ SortedListError → Type 0
 Inserted c before n x after (Ok m) = (n ≤ length before) × (IsStrictlySortedBy c (take n before) → Holding c before n x after m) × Left before n x after m
 Inserted c before n x after (Err e) = (after ≡ before) × (length before ≤ n) × (n ≤ length before → IsStrictlySortedBy c (take n before) → Has (take n before) x → ⊥)
+
+-- where x stands among the first n, or where it goes: it comes before all from there on, and after the one before
+abbrev pub Placed : {X : Type 0} → (X → X → Ordering) → List X → ℕ → X → Result ℕ ℕ → Type 0
+Placed c xs n x (Ok i) = (i < n) × (slice_index_or xs i x ≡ x)
+Placed c xs n x (Err i) = (i ≤ n) × AllWithin (λ y. c x y ≡ Less) xs i n × (0 < i → c x (slice_index_or xs (i - 1) x) ≡ Greater)
 
 -- x put at the place i among the first n, what stood from there on moved up by one; refused, with all as it was, where no place is left
 abbrev pub Put : {X : Type 0} → List X → ℕ → ℕ → X → List X → Result ℕ SortedListError → Type 0

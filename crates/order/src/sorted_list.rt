@@ -1,7 +1,8 @@
 ghost use Rattle.std.specs.Prelude.{◌≡◌, ◌≤◌, length};
-ghost use Rattle.order.specs.SortedLists.{list_fault, Put, Inserted};
+ghost use Rattle.order.specs.SortedLists.{list_fault, Placed, Put, Inserted};
 
 use crate::total_order::TotalOrder;
+use std::cmp::Ordering;
 
 /// Why a list does not take an element.
 #[derive(Clone, Copy, PartialEq, Eq, Debug)]
@@ -34,10 +35,25 @@ pub fn insert_sorted<T: TotalOrder>(
     if len > items.len() {
         return Err(SortedListError::Full);
     }
-    match items[..len].binary_search_by(|y| y.compare(&x)) {
+    match find(items, len, &x) {
         Ok(_) => Ok(len),
         Err(place) => put(items, place, len, x),
     }
+}
+
+/// Where `x` stands among the first `len` of `items`, or where it would go, looking from the end.
+fn find<T: TotalOrder>(items: &[T], len: usize, x: &T) -> Result<usize, usize>
+    requires { len ≤ length items.now }
+    ensures { Placed T.TotalOrder.compared items.now len x.now result }
+{
+    for (i, y) in items[..len].iter().enumerate().rev() {
+        match x.compare(y) {
+            Ordering::Less => {}
+            Ordering::Equal => return Ok(i),
+            Ordering::Greater => return Err(i + 1),
+        }
+    }
+    Err(0)
 }
 
 /// Puts `x` at `place` among the first `len` of `items`, moving up by one what stands there and behind it, and answers how many are in use then.
