@@ -116,8 +116,8 @@ impl Ord for Row {
     fn cmp(&self, other: &Self) -> Ordering {
         self.as_bytes()
             .cmp(&other.as_bytes())
-            .then(self.bytes.cmp(&other.bytes))
-            .then(self.len.cmp(&other.len))
+            .then_with(|| self.bytes.cmp(&other.bytes))
+            .then_with(|| self.len.cmp(&other.len))
     }
 }
 
