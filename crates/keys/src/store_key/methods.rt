@@ -38,7 +38,12 @@ impl StoreKey {
         if bytes.len() > MAX_KEY_LEN {
             return Err(StoreKeyError::TooLong);
         }
-        StoreKey::checked(ShortText::of(bytes, &[]))
+        if !StoreKey::validate(bytes) {
+            return Err(StoreKeyError::Invalid);
+        }
+        Ok(StoreKey {
+            text: ShortText::of(bytes, &[]),
+        })
     }
 
     /// True if the bytes keep the rule of keys, however many they are.
@@ -56,7 +61,12 @@ impl StoreKey {
         if suffix.len() > room {
             return Err(StoreKeyError::TooLong);
         }
-        StoreKey::checked(ShortText::of(self.as_bytes(), suffix))
+        let text = ShortText::of(self.as_bytes(), suffix);
+        if StoreKey::validate(text.as_bytes()) {
+            Ok(StoreKey { text })
+        } else {
+            Err(StoreKeyError::Invalid)
+        }
     }
 
     /// The key's bytes.
@@ -64,15 +74,5 @@ impl StoreKey {
         ensures { result.now ≡ text self.now }
     {
         self.text.as_bytes()
-    }
-
-    /// The key of a text, if it keeps the rule.
-    fn checked(text: ShortText<120>) -> Result<Self, StoreKeyError>
-        ensures { MadeKey text result }
-    {
-        if !StoreKey::validate(text.as_bytes()) {
-            return Err(StoreKeyError::Invalid);
-        }
-        Ok(StoreKey { text })
     }
 }
