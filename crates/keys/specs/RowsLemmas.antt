@@ -42,19 +42,19 @@ pub long_row_text : (w : Row) → length w.bytes ≡ 121 → 120 < w.len → 120
 long_row_text w n l = simp length-take (omega arith)
 
 -- `==` of rows holds exactly where they compare equal
-pub rows_tie : (a b : Row) → (bytes_eq a.bytes b.bytes && (a.len == b.len)) ≡ is_eq (compare_rows a b)
-rows_tie = ties rows_lawful (λ (x y : Row). bytes_eq x.bytes y.bytes && (x.len == y.len)) (λ a b. decided a b)
+pub rows_tie : (a b : Row) → ((a.len == b.len) && bytes_eq a.bytes b.bytes) ≡ is_eq (compare_rows a b)
+rows_tie = ties rows_lawful (λ (x y : Row). (x.len == y.len) && bytes_eq x.bytes y.bytes) (λ a b. decided a b)
   where
-    decided : (a b : Row) → Decides (bytes_eq a.bytes b.bytes && (a.len == b.len)) (a ≡ b)
+    decided : (a b : Row) → Decides ((a.len == b.len) && bytes_eq a.bytes b.bytes) (a ≡ b)
     decided a b =
         Decides-like
-        (bytes_eq a.bytes b.bytes && (a.len == b.len))
-        (λ h. same_row a b h.0 h.1)
-        (λ e. (ap (λ (w : Row). w.bytes) e, ap (λ (w : Row). w.len) e))
-        (Decides-and (bytes_eq a.bytes b.bytes) (a.len == b.len) (bytes_eq-Decides a.bytes b.bytes) (Decides-eqb a.len b.len))
+        ((a.len == b.len) && bytes_eq a.bytes b.bytes)
+        (λ h. same_row a b h.1 h.0)
+        (λ e. (ap (λ (w : Row). w.len) e, ap (λ (w : Row). w.bytes) e))
+        (Decides-and (a.len == b.len) (bytes_eq a.bytes b.bytes) (Decides-eqb a.len b.len) (bytes_eq-Decides a.bytes b.bytes))
 
 pub rows_total : IsTotalOrder compare_rows
 rows_total = total_order rows_lawful
 
-pub rows_partial : IsPartialOrder (λ (a b : Row). bytes_eq a.bytes b.bytes && (a.len == b.len)) (as_partial_cmp compare_rows)
+pub rows_partial : IsPartialOrder (λ (a b : Row). (a.len == b.len) && bytes_eq a.bytes b.bytes) (as_partial_cmp compare_rows)
 rows_partial = partial_order_from_own_ties (partial_order_from_total rows_total) rows_tie

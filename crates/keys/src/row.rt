@@ -1,10 +1,14 @@
 //! Plain rows: how keys and prefixes lie in lists.
-ghost use Rattle.std.specs.Prelude.{◌≡◌, ◌≤◌, [], length, refl};
-ghost use Rattle.std.specs.Ordering.{as_partial_cmp};
+ghost use Rattle.std.specs.Prelude.{◌≡◌, ◌≤◌, ◌==◌, ◌&&◌, [], length, refl, Decides};
+ghost use Rattle.std.specs.Str.{bytes_eq};
+ghost use Rattle.std.specs.Ordering.{as_partial_cmp, on, eq_of_both};
 ghost use Rattle.keys.specs.StoreKeys.{text};
 ghost use Rattle.keys.specs.StorePrefixes.{prefix_text};
 ghost use Rattle.keys.specs.Rows.{row_text, RowOf, AsKey, AsPrefix, compare_rows};
 ghost use Rattle.keys.specs.RowsLemmas.{rows_lawful, rows_partial, rows_tie, rows_total};
+ghost use Rattle.std.specs.Cmp.Rules.{comparing};
+ghost use Rattle.std.proofs.Common.{rules};
+ghost use Rattle.std.specs.Cmp.{partial_equiv_from_equiv};
 
 use crate::buffer::lay;
 use crate::store_key::{MAX_KEY_LEN, StoreKey, StoreKeyError};
@@ -15,7 +19,7 @@ use std::cmp::Ordering;
 /// A text of at most 121 bytes, the first `len` of `bytes`, that need not be a key or a prefix.
 ///
 /// Any values may stand in the two fields: where `len` passes 121, the text is all of `bytes`, and the row is neither key nor prefix.
-#[derive(Clone, Copy, PartialEq, Eq)]
+#[derive(Clone, Copy)]
 pub struct Row {
     pub bytes: [u8; 121],
     pub len: usize,
@@ -143,4 +147,21 @@ impl TotalOrder for Row {
     fn compare(&self, other: &Self) -> Ordering {
         self.cmp(other)
     }
+}
+
+impl PartialEq for Row {
+    ghost eq = { eq_of_both (on (λ w. w.len) ◌==◌) (on (λ w. w.bytes) bytes_eq) };
+
+    ghost laws = { partial_equiv_from_equiv (Prim.search (comparing, rules)) };
+
+    fn eq(&self, other: &Self) -> bool
+        ensures value { result ≡ ((self.now.len == other.now.len) && bytes_eq self.now.bytes other.now.bytes) }
+        ensures decides { Decides result (self.now ≡ other.now) }
+    {
+        self.len == other.len && self.bytes == other.bytes
+    }
+}
+
+impl Eq for Row {
+    ghost laws = { Prim.search (comparing, rules) };
 }

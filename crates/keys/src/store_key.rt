@@ -11,7 +11,7 @@ mod prefixes;
 pub const MAX_KEY_LEN: usize = 120;
 
 /// A Zarr abstract store key: at most 120 bytes that keep the rule `KeyText`. Keys are in the order of their texts.
-#[derive(Clone, Copy, PartialEq, Eq, PartialOrd, Ord)]
+#[derive(Clone, Copy, PartialOrd, Ord)]
 pub struct StoreKey {
     text: ShortText<120>,
     ghost within: { length text ≤ 120 },

@@ -10,7 +10,7 @@ pub mod orders;
 pub const MAX_PREFIX_LEN: usize = 121;
 
 /// A Zarr abstract store prefix: at most 121 bytes that keep the rule `PrefixText`. Prefixes are in the order of their texts.
-#[derive(Clone, Copy, PartialEq, Eq, PartialOrd, Ord)]
+#[derive(Clone, Copy, PartialOrd, Ord)]
 pub struct StorePrefix {
     text: ShortText<121>,
     ghost within: { length text ≤ 121 },
