@@ -130,6 +130,13 @@ pub fn check_in_place(
     ensures { told patch_refusal result ≡ unless (in_place_no source.now patches.now old_len space) tt }
 {
     check_patches(patches, source)?;
+    check_room(old_len, patches, space)
+}
+
+/// Is there room in `space` bytes for `old_len` bytes once the patches are laid on them?
+pub fn check_room(old_len: u64, patches: &[Patch], space: usize) -> Result<(), PatchError>
+    ensures { told patch_refusal result ≡ unless (room space (patched_length old_len patches.now)) tt }
+{
     match patched_len(old_len, patches) {
         Some(n) if n <= space as u64 => Ok(()),
         _ => Err(PatchError::Short),

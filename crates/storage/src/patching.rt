@@ -13,7 +13,7 @@ use crate::reads::get;
 use crate::storage_sync::ReadableStorageTraits;
 use crate::storage_sync::writes::WritableStorageTraits;
 use keys::store_key::StoreKey;
-use patches::{Patch, check_in_place, check_patches, lay_patches_in_place};
+use patches::{Patch, check_patches, check_room, lay_patches_in_place};
 
 /// Asks the questions of an offset write on the value under `key`, and, where it is not made in place, builds the new value at the front of `work`.
 ///
@@ -87,6 +87,7 @@ pub fn set_partial<S: WritableStorageTraits>(
 }
 
 /// The questions before patches are laid on the value under `key` in a work buffer of `space` bytes.
+#[tactic(auto, using(crate::proofs::OffsetWrites::lay_room))]
 fn check_lay<S: ReadableStorageTraits>(
     store: &S,
     key: &StoreKey,
@@ -96,8 +97,9 @@ fn check_lay<S: ReadableStorageTraits>(
 ) -> Result<(), Fault>
     ensures { result ≡ answered (lay_no source.now patches.now (value_in S.ReadableStorageTraits (text key.now) store.now) space) tt }
 {
+    check_patches(patches, source)?;
     let old_len = store.size_key(key).unwrap_or(0);
-    Ok(check_in_place(old_len, patches, source, space)?)
+    Ok(check_room(old_len, patches, space)?)
 }
 
 /// Copies the value under `key` to the front of `work`, which has room for it, and answers its length; 0 if it is not stored.
