@@ -118,10 +118,10 @@ impl Ord for Row {
 
     #[tactic(auto, unfolding(crate::specs::ByteOrder::compare_bytes))]
     fn cmp(&self, other: &Self) -> Ordering {
-        self.as_bytes()
-            .cmp(&other.as_bytes())
-            .then_with(|| self.bytes.cmp(&other.bytes))
-            .then_with(|| self.len.cmp(&other.len))
+        match self.as_bytes().cmp(&other.as_bytes()) {
+            Ordering::Equal => self.bytes.cmp(&other.bytes).then(self.len.cmp(&other.len)),
+            unequal => unequal,
+        }
     }
 }
 
